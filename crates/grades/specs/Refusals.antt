@@ -1,0 +1,15 @@
+-- Which calls are refused, and the number of each refusal.
+use mathlib.Core.Bool.{cond}
+use Prim.Native.Nat.{ℕ}
+use lib.Dec.{ltb}
+use Rattle.std.specs.declared.option.Option.{Option}
+use Rattle.std.specs.declared.option.Option.the-variants.{None, Some}
+use Rattle.grades.specs.declared.cut.CutRefusal.{CutRefusal}
+use Rattle.grades.specs.declared.cut.CutRefusal.the-variants.{AtFloor}
+
+abbrev pub cut-number : CutRefusal → ℕ
+cut-number AtFloor = 6
+
+-- a cut at a grade of this level
+abbrev pub cut-refusal : ℕ → Option CutRefusal
+cut-refusal level = cond (ltb 0 level) None (Some AtFloor)

@@ -1,0 +1,23 @@
+mod cut;
+mod grade_map;
+mod scale;
+mod tables;
+mod thousandths;
+mod words;
+mod yes_no;
+
+pub use cut::Cut;
+pub use cut::CutMap;
+pub use cut::CutRefusal;
+pub use grade_map::GradeMap;
+pub use scale::Scale;
+pub use tables::ThousandthsToWords;
+pub use tables::ThousandthsToWordsMap;
+pub use tables::WordsToThousandths;
+pub use tables::WordsToThousandthsMap;
+pub use thousandths::Thousandths;
+pub use thousandths::ThousandthsScale;
+pub use words::Words;
+pub use words::WordsScale;
+pub use yes_no::YesNo;
+pub use yes_no::YesNoScale;

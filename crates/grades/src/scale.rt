@@ -1,0 +1,63 @@
+ghost use mathlib.Core.Path.{_≡_};
+ghost use mathlib.Core.Logic.{_⊎_};
+ghost use Prim.Native.Nat.{ℕ, _-_, _≤_};
+ghost use lib.Dec.{T, leb};
+ghost use Rattle.std.specs.Options.{Cases};
+
+/// A scale, by its grades. A grade counts by its level alone: two grades of one level are one grade.
+pub trait Scale: Copy {
+    // the level of a grade, from 0 (the floor) to the height (the top)
+    ghost level: { Self → ℕ };
+
+    ghost height: { ℕ };
+
+    // the scale's number in files
+    ghost number: { ℕ };
+
+    // the code of the grades of a level
+    ghost code: { ℕ → ℕ };
+
+    law least_height: { 1 ≤ height };
+
+    law most_height: { height ≤ 9999 };
+
+    law within: { (x : Self) → level x ≤ height };
+
+    law total: { (x y : Self) → T (leb (level x) (level y)) ⊎ T (leb (level y) (level x)) };
+
+    law floor_level: { (x : Self) × (level x ≡ 0) };
+
+    law top_level: { (x : Self) × (level x ≡ height) };
+
+    law opposite_level: { (x : Self) → (y : Self) × (level y ≡ height - level x) };
+
+    law code_within: { (x : Self) → code (level x) ≤ 9999 };
+
+    // a code leads back to one level
+    law code_leads_back: { (x y : Self) → code (level x) ≡ code (level y) → level x ≡ level y };
+
+    fn number() -> u8
+        ensures { λ r. ⌜ r ≡ number ⌝ };
+
+    fn height() -> u16
+        ensures { λ r. ⌜ r ≡ height ⌝ };
+
+    fn at_most(self, other: Self) -> bool
+        ensures { λ r. ⌜ r ≡ leb (level self) (level other) ⌝ };
+
+    fn floor() -> Self
+        ensures { λ r. ⌜ level r ≡ 0 ⌝ };
+
+    fn top() -> Self
+        ensures { λ r. ⌜ level r ≡ height ⌝ };
+
+    fn opposite(self) -> Self
+        ensures { λ r. ⌜ level r ≡ height - level self ⌝ };
+
+    fn code(self) -> u16
+        ensures { λ r. ⌜ r ≡ code (level self) ⌝ };
+
+    /// The grade of a code, or nothing where no grade has that code.
+    fn of_code(wanted: u16) -> Option<Self>
+        ensures { λ r. ⌜ Cases r ((x : Self) → code (level x) ≡ wanted → ⊥) (λ g. code (level g) ≡ wanted) ⌝ };
+}
