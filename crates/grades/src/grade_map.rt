@@ -18,9 +18,9 @@ pub trait GradeMap {
 
     law ordered: { (f : Self) (p q : ℕ) → p ≤ q → q ≤ From·Scale .height → table f p ≤ table f q };
 
-    law floor_to_floor: { (f : Self) → table f 0 ≡ 0 };
+    law floors: { (f : Self) → table f 0 ≡ 0 };
 
-    law top_to_top: { (f : Self) → table f (From·Scale .height) ≡ To·Scale .height };
+    law tops: { (f : Self) → table f (From·Scale .height) ≡ To·Scale .height };
 
     // where it says so, the image of the opposite is the opposite of the image
     law opposites: { (f : Self) (x : Self·From) → T (keeps f) → table f (From·Scale .height - From·Scale .level x) ≡ To·Scale .height - table f (From·Scale .level x) };

@@ -17,24 +17,24 @@ pub trait Scale: Copy {
     // the code of the grades of a level
     ghost code: { ℕ → ℕ };
 
-    law least_height: { 1 ≤ height };
+    law positive: { 1 ≤ height };
 
-    law most_height: { height ≤ 9999 };
+    law limited: { height ≤ 9999 };
 
     law within: { (x : Self) → level x ≤ height };
 
     law total: { (x y : Self) → T (leb (level x) (level y)) ⊎ T (leb (level y) (level x)) };
 
-    law floor_level: { (x : Self) × (level x ≡ 0) };
+    law floors: { (x : Self) × (level x ≡ 0) };
 
-    law top_level: { (x : Self) × (level x ≡ height) };
+    law tops: { (x : Self) × (level x ≡ height) };
 
-    law opposite_level: { (x : Self) → (y : Self) × (level y ≡ height - level x) };
+    law opposites: { (x : Self) → (y : Self) × (level y ≡ height - level x) };
 
-    law code_within: { (x : Self) → code (level x) ≤ 9999 };
+    law codes: { (x : Self) → code (level x) ≤ 9999 };
 
     // a code leads back to one level
-    law code_leads_back: { (x y : Self) → code (level x) ≡ code (level y) → level x ≡ level y };
+    law decodes: { (x y : Self) → code (level x) ≡ code (level y) → level x ≡ level y };
 
     fn number() -> u8
         ensures { λ r. ⌜ r ≡ number ⌝ };

@@ -1,0 +1,41 @@
+-- Which calls on a sheet are refused, by the first cause that holds, and the number of each refusal.
+use mathlib.Core.Bool.{Bool, cond}
+use Prim.Native.Nat.{ℕ, _+_, _*_}
+use lib.Dec.{ltb, leb, eqb}
+use Rattle.std.specs.declared.option.Option.{Option}
+use Rattle.std.specs.declared.option.Option.the-variants.{None, Some}
+use Rattle.sheets.specs.declared.refusal.SizeRefusal.{SizeRefusal}
+use Rattle.sheets.specs.declared.refusal.SizeRefusal.the-variants as size
+use Rattle.sheets.specs.declared.refusal.DrawRefusal.{DrawRefusal}
+use Rattle.sheets.specs.declared.refusal.DrawRefusal.the-variants as draw
+use Rattle.sheets.specs.declared.refusal.MarkRefusal.{MarkRefusal}
+use Rattle.sheets.specs.declared.refusal.MarkRefusal.the-variants as mark
+
+abbrev pub size-number : SizeRefusal → ℕ
+size-number size.States = 4
+size-number size.Marks = 4
+size-number size.Memory = 5
+
+abbrev pub draw-number : DrawRefusal → ℕ
+draw-number draw.State = 2
+
+abbrev pub mark-number : MarkRefusal → ℕ
+mark-number mark.State = 2
+mark-number mark.Mark = 3
+
+-- where the test fails, that refusal; else what comes next
+abbrev pub needing : {R : Type 0} → Bool → R → Option R → Option R
+needing test refusal next = cond test next (Some refusal)
+
+-- a sheet of n states and m marks in memory of so many cells
+abbrev pub size-refusal : (n m cells : ℕ) → Option SizeRefusal
+size-refusal n m cells =
+    needing (leb 1 n) size.States (needing (leb n 64) size.States (needing (leb m 16) size.Marks (needing (eqb cells (n * (n + m))) size.Memory None)))
+
+-- a step of a sheet of n states
+abbrev pub draw-refusal : (n from to : ℕ) → Option DrawRefusal
+draw-refusal n from to = needing (ltb from n) draw.State (needing (ltb to n) draw.State None)
+
+-- a mark of a sheet of n states and m marks
+abbrev pub mark-refusal : (n m state which : ℕ) → Option MarkRefusal
+mark-refusal n m state which = needing (ltb state n) mark.State (needing (ltb which m) mark.Mark None)
