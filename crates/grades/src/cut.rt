@@ -56,7 +56,11 @@ pub impl<S: Scale> GradeMap for Cut<S> as CutMap {
         if grade.at_most(S::floor()) {
             return YesNo::No;
         }
-        if self.grade.at_most(grade) { YesNo::Yes } else { YesNo::No }
+        if self.grade.at_most(grade) {
+            YesNo::Yes
+        } else {
+            YesNo::No
+        }
     }
 
     fn keeps_opposites(&self) -> bool {

@@ -57,7 +57,11 @@ fn read<S: Scale>(grades: &mut [S], at: usize) -> S
     ensures value { λ r. ⌜ S·Scale .level r ≡ getD (levels (S·Scale .level) (now (grades .entry))) at 0 ⌝ }
     ensures same { λ _. ⌜ now (grades .exit) ≡ now (grades .entry) ⌝ }
 {
-    if at < grades.len() { grades[at] } else { S::floor() }
+    if at < grades.len() {
+        grades[at]
+    } else {
+        S::floor()
+    }
 }
 
 fn put<S: Scale>(grades: &mut [S], at: usize, grade: S)

@@ -19,7 +19,10 @@ impl<K, M> Translated<K, M> {
     }
 }
 
-pub impl<M: GradeMap, K: Structure<Grade = M::From>> Structure for Translated<K, M> as TranslatedStructure {
+pub impl<M: GradeMap, K: Structure<Grade = M::From>> Structure for Translated<
+    K,
+    M,
+> as TranslatedStructure {
     type Grade = M::To;
 
     ghost tables = { λ k. through (M·GradeMap .table (k .map)) (To·Scale .height) (K·Structure .tables (k .below)) };

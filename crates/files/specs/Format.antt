@@ -1,0 +1,90 @@
+-- The sheet file: a header of ten bytes, and then a record of five bytes for each step and each mark above the floor.
+use mathlib.Core.Path.{_≡_}
+use mathlib.Core.Bool.{Bool, cond}
+use mathlib.Core.List.{List, [], _∷_, _++_, map}
+use Prim.Native.Nat.{ℕ, zero, suc, _+_, _/_, _%_}
+use lib.Dec.{ltb}
+use lib.ListN.{length, drop}
+use Rattle.std.specs.Iters.{counting}
+use Rattle.std.specs.shelf.Lists.{kept-by}
+use Rattle.std.specs.declared.option.Option.{Option}
+use Rattle.std.specs.declared.option.Option.the-variants.{None, Some}
+use Rattle.files.specs.declared.cell.Kind.{Kind}
+use Rattle.files.specs.declared.cell.Kind.the-variants.{Step, Mark}
+use Rattle.files.specs.declared.cell.Cell.{Cell}
+use Rattle.files.specs.declared.cell.Record.{Record}
+use Rattle.sheets.specs.Tables.{Tables}
+
+-- ---- cells, in their order
+
+abbrev pub cell : Kind → (first second : ℕ) → Cell
+cell kind first second = record { kind = kind; first = first; second = second }
+
+-- the cells of one state: its steps, or its marks
+abbrev pub row : Kind → (first width : ℕ) → List Cell
+row kind first width = map (cell kind first) (counting 0 width)
+
+-- the rows of so many states, from one on
+abbrev pub rows : Kind → (first width count : ℕ) → List Cell
+rows kind first width zero = []
+rows kind first width (suc count) = row kind first width ++ rows kind (first + 1) width count
+
+-- every cell, ascending by kind, by first number and by second number
+abbrev pub cells : (n m : ℕ) → List Cell
+cells n m = rows Step 0 n n ++ rows Mark 0 m n
+
+abbrev pub level-by : Tables → Kind → (first second : ℕ) → ℕ
+level-by T Step from to = T .step from to
+level-by T Mark state which = T .mark state which
+
+abbrev pub level-at : Tables → Cell → ℕ
+level-at T c = level-by T (c .kind) (c .first) (c .second)
+
+-- ---- records
+
+abbrev pub above-floor : Tables → Cell → Bool
+above-floor T c = ltb 0 (level-at T c)
+
+-- a cell with the code of its level
+abbrev pub record-of : (code : ℕ → ℕ) → Tables → Cell → Record
+record-of code T c = record { cell = c; code = code (level-at T c) }
+
+-- a cell's record, or none where it is at the floor
+abbrev pub recorded : (code : ℕ → ℕ) → Tables → Cell → Option Record
+recorded code T c = cond (above-floor T c) (Some (record-of code T c)) None
+
+-- the records of these cells, floors left out
+abbrev pub records-of : (code : ℕ → ℕ) → Tables → List Cell → List Record
+records-of code T cs = map (record-of code T) (kept-by (above-floor T) cs)
+
+-- ---- bytes
+
+abbrev pub kind-byte : Kind → ℕ
+kind-byte Step = 1
+kind-byte Mark = 2
+
+-- two bytes, the low one first
+abbrev pub low-first : ℕ → List ℕ
+low-first x = x % 256 ∷ (x / 256 ∷ [])
+
+abbrev pub record-bytes : Record → List ℕ
+record-bytes r = kind-byte (r .cell .kind) ∷ (r .cell .first ∷ (r .cell .second ∷ low-first (r .code)))
+
+abbrev pub bytes-of : List Record → List ℕ
+bytes-of [] = []
+bytes-of (r ∷ rs) = record-bytes r ++ bytes-of rs
+
+-- the letters WSH, the version 1, the scale's number, the sizes, and how many records follow
+abbrev pub header : (number n m count : ℕ) → List ℕ
+header number n m count = 87 ∷ (83 ∷ (72 ∷ (low-first 1 ++ (number ∷ (n ∷ (m ∷ low-first count))))))
+
+-- the file of these tables, on a scale of this number and these codes
+abbrev pub file-of : (number : ℕ) → (code : ℕ → ℕ) → Tables → List ℕ
+file-of number code T =
+    header number (T .states) (T .marks) (length (records-of code T (cells (T .states) (T .marks))))
+    ++ bytes-of (records-of code T (cells (T .states) (T .marks)))
+
+-- the memory begins with the file, of this length, and goes on as it was
+pub record Written (file before after : List ℕ) (long : ℕ) : Type 0 where
+  pub answered : long ≡ length file
+  pub bytes : after ≡ file ++ drop long before

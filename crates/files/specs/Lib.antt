@@ -1,0 +1,4 @@
+pub mod Format
+pub mod Order
+pub mod Progress
+pub mod Refusals
