@@ -1,3 +1,4 @@
 pub mod Levels
+pub mod Names
 pub mod Refusals
 pub mod Tables

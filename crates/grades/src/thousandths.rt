@@ -1,9 +1,31 @@
+ghost use mathlib.Core.Path.{_≡_};
+ghost use Rattle.std.specs.Written.{decimal};
+ghost use Rattle.std.specs.declared.option.Option.the-variants.{Some};
 ghost use Rattle.grades.specs.Levels.{thousandths-level};
 use crate::Scale;
+use std::fmt;
 
 /// A grade in thousandths: any 16-bit number, which counts as 1,000 where it is above.
 #[derive(Clone, Copy, Debug)]
 pub struct Thousandths(pub u16);
+
+impl Thousandths {
+    /// What the number counts as.
+    fn counted(self) -> u16
+        ensures { λ r. ⌜ r ≡ thousandths-level self ⌝ }
+    {
+        self.0.min(1000)
+    }
+}
+
+pub impl fmt::Display for Thousandths as ThousandthsDisplay {
+    ghost shown = { λ grade. Some (decimal (thousandths-level grade)) };
+
+    fn fmt<W: fmt::Write>(&self, f: &mut fmt::Formatter<W>) -> fmt::Result {
+        let counted = self.counted();
+        write!(f, "{counted}")
+    }
+}
 
 pub impl Scale for Thousandths as ThousandthsScale {
     ghost level = { thousandths-level };
@@ -23,7 +45,7 @@ pub impl Scale for Thousandths as ThousandthsScale {
     }
 
     fn at_most(self, other: Thousandths) -> bool {
-        self.0.min(1000) <= other.0.min(1000)
+        self.counted() <= other.counted()
     }
 
     fn floor() -> Thousandths {
@@ -35,11 +57,11 @@ pub impl Scale for Thousandths as ThousandthsScale {
     }
 
     fn opposite(self) -> Thousandths {
-        Thousandths(1000 - self.0.min(1000))
+        Thousandths(1000 - self.counted())
     }
 
     fn code(self) -> u16 {
-        self.0.min(1000)
+        self.counted()
     }
 
     fn of_code(wanted: u16) -> Option<Thousandths> {

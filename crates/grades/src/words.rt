@@ -1,6 +1,9 @@
 ghost use mathlib.Core.Path.{_≡_};
 ghost use Rattle.grades.specs.Levels.{word-level};
+ghost use Rattle.grades.specs.Names.{word-name};
+ghost use Rattle.std.specs.declared.option.Option.the-variants.{Some};
 use crate::Scale;
+use std::fmt;
 
 /// A grade in seven words.
 #[derive(Clone, Copy, Debug)]
@@ -27,6 +30,29 @@ impl Words {
             Words::Mostly => 5,
             Words::Sure => 6,
         }
+    }
+
+    /// The word itself.
+    pub fn name(self) -> &'static str
+        ensures { λ r. ⌜ now r ≡ word-name self ⌝ }
+    {
+        match self {
+            Words::Never => "never",
+            Words::Hardly => "hardly",
+            Words::Seldom => "seldom",
+            Words::Even => "even",
+            Words::Often => "often",
+            Words::Mostly => "mostly",
+            Words::Sure => "sure",
+        }
+    }
+}
+
+pub impl fmt::Display for Words as WordsDisplay {
+    ghost shown = { λ word. Some (word-name word) };
+
+    fn fmt<W: fmt::Write>(&self, f: &mut fmt::Formatter<W>) -> fmt::Result {
+        f.write_str(self.name())
     }
 }
 
