@@ -15,7 +15,7 @@ use Rattle.std.proofs.shelf.Counted.{map-counting-more}
 use Rattle.std.proofs.shelf.Elements.{kept-by-append}
 use Rattle.files.specs.declared.cell.Cell.{Cell}
 use Rattle.files.specs.declared.cell.Record.{Record}
-use Rattle.files.specs.Format.{cells, above-floor, record-of, recorded, records-of, record-bytes, bytes-of, header, file-of, Written}
+use Rattle.files.specs.Format.{cells, above-floor, record-of, recorded, records-of, record-bytes, bytes-of, header, file-of}
 use Rattle.files.specs.Order.{cell-at, first-cells}
 use Rattle.files.specs.Progress.{Counted, Put}
 use Rattle.files.proofs.Cells.{map-counting-append, cells-by-index}
@@ -128,6 +128,7 @@ module _ (code : ℕ → ℕ) (T : Tables) (n m i : ℕ) where
 -- ---- the whole file
 
 pub length-file : (number : ℕ) (code : ℕ → ℕ) (T : Tables) → length (file-of number code T) ≡ 10 + 5 * length (records-of code T (cells (T .states) (T .marks)))
+unfolding file-of
 length-file number code T = omega (arith, length-bytes (records-of code T (cells (T .states) (T .marks))))
 
 -- the records of a structure that is as it was, asked by its own sizes
@@ -139,16 +140,13 @@ same-records tables code k before n m ek en em =
 -- the header and the records of tables, written one after the other, are their file
 pub file-written : (number scale n m count : ℕ) (code : ℕ → ℕ) (T : Tables) (rs : List Record) (before headed after : List ℕ) →
     number ≡ scale → n ≡ T .states → m ≡ T .marks → rs ≡ records-of code T (cells (T .states) (T .marks)) → count ≡ length rs → 10 + 5 * count ≤ length before →
-    headed ≡ sets before 0 (header number n m count) → after ≡ sets headed 10 (bytes-of rs) → Written (file-of scale code T) before after (10 + 5 * count)
+    headed ≡ sets before 0 (header number n m count) → after ≡ sets headed 10 (bytes-of rs) → after ≡ file-of scale code T ++ drop (10 + 5 * count) before
+unfolding file-of
 file-written number scale n m count code T rs before headed after es en em er ec room eh ea =
     let long : 0 + length (header number n m count ++ bytes-of rs) ≡ 10 + 5 * count = omega (arith, length-append (header number n m count) (bytes-of rs), length-bytes rs) in
-    record {
-      answered = omega (arith, length-file scale code T, ap length er);
-      bytes =
-          ea ∙ ap (λ l. sets l 10 (bytes-of rs)) eh
-          ∙ sets-append before 0 10 (header number n m count) (bytes-of rs) refl
-          ∙ sets-eq (header number n m count ++ bytes-of rs) before 0 (omega arith)
-          ∙ ap₂ (λ (k end : ℕ). (header number n m k ++ bytes-of rs) ++ drop end before) ec long
-          ∙ ap₂ (λ (a b : ℕ). (header number a b (length rs) ++ bytes-of rs) ++ drop (10 + 5 * count) before) en em
-          ∙ ap₂ (λ (a : ℕ) (ss : List Record). (header a (T .states) (T .marks) (length ss) ++ bytes-of ss) ++ drop (10 + 5 * count) before) es er;
-    }
+    ea ∙ ap (λ l. sets l 10 (bytes-of rs)) eh
+    ∙ sets-append before 0 10 (header number n m count) (bytes-of rs) refl
+    ∙ sets-eq (header number n m count ++ bytes-of rs) before 0 (omega arith)
+    ∙ ap₂ (λ (k end : ℕ). (header number n m k ++ bytes-of rs) ++ drop end before) ec long
+    ∙ ap₂ (λ (a b : ℕ). (header number a b (length rs) ++ bytes-of rs) ++ drop (10 + 5 * count) before) en em
+    ∙ ap₂ (λ (a : ℕ) (ss : List Record). (header a (T .states) (T .marks) (length ss) ++ bytes-of ss) ++ drop (10 + 5 * count) before) es er

@@ -79,7 +79,7 @@ abbrev pub header : (number n m count : ℕ) → List ℕ
 header number n m count = 87 ∷ (83 ∷ (72 ∷ (low-first 1 ++ (number ∷ (n ∷ (m ∷ low-first count))))))
 
 -- the file of these tables, on a scale of this number and these codes
-abbrev pub file-of : (number : ℕ) → (code : ℕ → ℕ) → Tables → List ℕ
+unfoldable pub file-of : (number : ℕ) → (code : ℕ → ℕ) → Tables → List ℕ
 file-of number code T =
     header number (T .states) (T .marks) (length (records-of code T (cells (T .states) (T .marks))))
     ++ bytes-of (records-of code T (cells (T .states) (T .marks)))

@@ -1,10 +1,12 @@
 ghost use mathlib.Core.Path.{_≡_};
+ghost use mathlib.Core.List.{_++_};
 ghost use Prim.Native.Nat.{_+_, _*_, _≤_};
-ghost use lib.ListN.{length};
+ghost use lib.ListN.{length, drop};
 ghost use lib.Seq.{sets};
 ghost use denote.Ref.{now};
 ghost use Rattle.std.specs.Results.{Cases, errPart};
 ghost use Rattle.files.specs.Format.{cells, records-of, record-bytes, bytes-of, header, file-of, Written};
+ghost use Rattle.files.specs.Progress.{Planned};
 ghost use Rattle.files.specs.Refusals.{save-number, save-refusal};
 use crate::cell::Record;
 use crate::cell::extent_of;
@@ -28,6 +30,13 @@ impl SaveRefusal {
             SaveRefusal::Memory => 24,
         }
     }
+}
+
+/// What a file is written by.
+#[derive(Clone, Copy)]
+struct Plan {
+    extent: Extent,
+    count: u16,
 }
 
 const HEADER: usize = 10;
@@ -93,6 +102,29 @@ fn put_records<K: Structure>(structure: &mut K, extent: Extent, out: &mut [u8])
     }
 }
 
+/// The sizes of a structure, and how many records its file has.
+fn plan_of<K: Structure>(structure: &mut K) -> Plan
+    ensures planned { λ r. ⌜ Planned (Grade·Scale .number) (Grade·Scale .code) (K·Structure .tables (now (structure .entry))) r ⌝ }
+    ensures same { λ _. ⌜ now (structure .exit) ≡ now (structure .entry) ⌝ }
+{
+    let extent = extent_of(structure);
+    let count = count_records(structure, extent);
+    Plan {
+        extent,
+        count: count as u16,
+    }
+}
+
+fn put_file<K: Structure>(structure: &mut K, plan: Plan, out: &mut [u8])
+    requires planned { ⌜ Planned (Grade·Scale .number) (Grade·Scale .code) (K·Structure .tables (now structure)) plan ⌝ }
+    requires room { ⌜ 10 + 5 * plan .count ≤ length (now out) ⌝ }
+    ensures written { λ _. ⌜ now (out .exit) ≡ file-of (Grade·Scale .number) (Grade·Scale .code) (K·Structure .tables (now (structure .entry))) ++ drop (10 + 5 * plan .count) (now (out .entry)) ⌝ }
+    ensures same { λ _. ⌜ now (structure .exit) ≡ now (structure .entry) ⌝ }
+{
+    put_header(out, <K::Grade as Scale>::number(), plan.extent, plan.count);
+    put_records(structure, plan.extent, out);
+}
+
 /// Writes the file of a structure's tables, and answers its length.
 pub fn save<K: Structure>(structure: &mut K, out: &mut [u8]) -> Result<usize, SaveRefusal>
     ensures refused { λ r. ⌜ errPart r ≡ save-refusal (length (file-of (Grade·Scale .number) (Grade·Scale .code) (K·Structure .tables (now (structure .entry))))) (length (now (out .entry))) ⌝ }
@@ -101,13 +133,11 @@ pub fn save<K: Structure>(structure: &mut K, out: &mut [u8]) -> Result<usize, Sa
         (λ _. now (out .exit) ≡ now (out .entry)) ⌝ }
     ensures same { λ _. ⌜ now (structure .exit) ≡ now (structure .entry) ⌝ }
 {
-    let extent = extent_of(structure);
-    let count = count_records(structure, extent);
-    let length = HEADER + RECORD * count;
+    let plan = plan_of(structure);
+    let length = HEADER + RECORD * plan.count as usize;
     if out.len() < length {
         return Err(SaveRefusal::Memory);
     }
-    put_header(out, <K::Grade as Scale>::number(), extent, count as u16);
-    put_records(structure, extent, out);
+    put_file(structure, plan, out);
     Ok(length)
 }

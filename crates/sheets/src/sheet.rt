@@ -1,10 +1,10 @@
 ghost use mathlib.Core.Path.{_≡_};
-ghost use Prim.Native.Nat.{ℕ, _+_, _*_};
+ghost use Prim.Native.Nat.{ℕ, _+_, _*_, _<_};
 ghost use lib.ListN.{length, getD, set};
 ghost use denote.Ref.{now, name};
 ghost use Rattle.std.specs.Results.{Cases, errPart};
-ghost use Rattle.sheets.specs.Tables.{all-floor};
-ghost use Rattle.sheets.specs.Sheets.{levels, states-of, marks-of, tables-of, Whole, IsWhole, Kept, Drawn, Marked};
+ghost use Rattle.sheets.specs.Tables.{Bounded, all-floor, with-step, with-mark};
+ghost use Rattle.sheets.specs.Sheets.{levels, states-of, marks-of, step-cell, mark-cell, sheet-tables, tables-of, Whole, IsWhole, Kept, Drawn, Marked};
 ghost use Rattle.sheets.specs.Refusals.{size-refusal, draw-refusal, mark-refusal};
 use crate::DrawRefusal;
 use crate::MarkRefusal;
@@ -72,12 +72,64 @@ fn put<S: Scale>(grades: &mut [S], at: usize, grade: S)
     }
 }
 
-fn clear<S: Scale>(grades: &mut [S])
-    ensures { λ _. ⌜ ((i : ℕ) → getD (levels (S·Scale .level) (now (grades .exit))) i 0 ≡ 0) ⌝ }
+/// Sets every grade of a sheet's memory to the floor.
+fn clear<S: Scale>(grades: &mut [S], size: Size)
+    ensures cells { λ _. ⌜ ((i : ℕ) → getD (levels (S·Scale .level) (now (grades .exit))) i 0 ≡ 0) ⌝ }
+    ensures floors { λ _. ⌜ sheet-tables (size .n) (size .m) (S·Scale .height) (levels (S·Scale .level) (now (grades .exit))) ≡ all-floor (size .n) (size .m) (S·Scale .height) ⌝ }
 {
     for grade in grades.iter_mut() {
         *grade = S::floor();
     }
+}
+
+/// The grade of a step in a sheet's memory.
+fn read_step<S: Scale>(grades: &mut [S], n: usize, m: usize, from: usize, to: usize) -> S
+    ensures value { λ r. ⌜ S·Scale .level r ≡ sheet-tables n m (S·Scale .height) (levels (S·Scale .level) (now (grades .entry))) .step from to ⌝ }
+    ensures same { λ _. ⌜ now (grades .exit) ≡ now (grades .entry) ⌝ }
+    ensures bounded { λ _. ⌜ Bounded (S·Scale .height) (sheet-tables n m (S·Scale .height) (levels (S·Scale .level) (now (grades .entry)))) ⌝ }
+{
+    let n = states_within(n);
+    let m = marks_within(m);
+    if from >= n || to >= n {
+        return S::floor();
+    }
+    read(grades, from * (n + m) + to)
+}
+
+/// The grade of a mark in a sheet's memory.
+fn read_mark<S: Scale>(grades: &mut [S], n: usize, m: usize, state: usize, which: usize) -> S
+    ensures value { λ r. ⌜ S·Scale .level r ≡ sheet-tables n m (S·Scale .height) (levels (S·Scale .level) (now (grades .entry))) .mark state which ⌝ }
+    ensures same { λ _. ⌜ now (grades .exit) ≡ now (grades .entry) ⌝ }
+    ensures bounded { λ _. ⌜ Bounded (S·Scale .height) (sheet-tables n m (S·Scale .height) (levels (S·Scale .level) (now (grades .entry)))) ⌝ }
+{
+    let n = states_within(n);
+    let m = marks_within(m);
+    if state >= n || which >= m {
+        return S::floor();
+    }
+    read(grades, state * (n + m) + (n + which))
+}
+
+/// Sets the grade of a step in a sheet's memory.
+fn put_step<S: Scale>(grades: &mut [S], n: usize, m: usize, from: usize, to: usize, grade: S)
+    requires { ⌜ from < states-of n ⌝ ∗ ⌜ to < states-of n ⌝ }
+    ensures cell { λ _. ⌜ levels (S·Scale .level) (now (grades .exit)) ≡ set (levels (S·Scale .level) (now (grades .entry))) (step-cell n m from to) (S·Scale .level grade) ⌝ }
+    ensures tables { λ _. ⌜ (Whole n m (length (now (grades .entry))) → sheet-tables n m (S·Scale .height) (levels (S·Scale .level) (now (grades .exit))) ≡ with-step (sheet-tables n m (S·Scale .height) (levels (S·Scale .level) (now (grades .entry)))) from to (S·Scale .level grade)) ⌝ }
+{
+    let n = states_within(n);
+    let m = marks_within(m);
+    put(grades, from * (n + m) + to, grade);
+}
+
+/// Sets the grade of a mark in a sheet's memory.
+fn put_mark<S: Scale>(grades: &mut [S], n: usize, m: usize, state: usize, which: usize, grade: S)
+    requires { ⌜ state < states-of n ⌝ ∗ ⌜ which < marks-of m ⌝ }
+    ensures cell { λ _. ⌜ levels (S·Scale .level) (now (grades .exit)) ≡ set (levels (S·Scale .level) (now (grades .entry))) (mark-cell n m state which) (S·Scale .level grade) ⌝ }
+    ensures tables { λ _. ⌜ (Whole n m (length (now (grades .entry))) → sheet-tables n m (S·Scale .height) (levels (S·Scale .level) (now (grades .exit))) ≡ with-mark (sheet-tables n m (S·Scale .height) (levels (S·Scale .level) (now (grades .entry)))) state which (S·Scale .level grade)) ⌝ }
+{
+    let n = states_within(n);
+    let m = marks_within(m);
+    put(grades, state * (n + m) + (n + which), grade);
 }
 
 impl<'a, S: Scale> Sheet<'a, S> {
@@ -91,7 +143,7 @@ impl<'a, S: Scale> Sheet<'a, S> {
         ensures cells { λ r. ⌜ ((i : ℕ) → getD (levels (S·Scale .level) (now (r .grades))) i 0 ≡ 0) ⌝ }
         ensures floors { λ r. ⌜ tables-of (S·Scale .level) (S·Scale .height) r ≡ all-floor (size .n) (size .m) (S·Scale .height) ⌝ }
     {
-        clear(memory);
+        clear(memory, size);
         Sheet {
             n: size.n,
             m: size.m,
@@ -107,12 +159,12 @@ impl<'a, S: Scale> Sheet<'a, S> {
             (λ _. Drawn (S·Scale .level) (S·Scale .height) (now (self .entry)) (now (self .exit)) from to (S·Scale .level grade))
             (λ _. now (self .exit) ≡ now (self .entry)) ⌝ }
     {
-        let n = states_within(self.n);
-        let m = marks_within(self.m);
-        if from >= n || to >= n {
+        let n = self.n;
+        let m = self.m;
+        if from >= states_within(n) || to >= states_within(n) {
             return Err(DrawRefusal::State);
         }
-        put(self.grades, from * (n + m) + to, grade);
+        put_step(self.grades, n, m, from, to, grade);
         Ok(())
     }
 
@@ -124,15 +176,15 @@ impl<'a, S: Scale> Sheet<'a, S> {
             (λ _. Marked (S·Scale .level) (S·Scale .height) (now (self .entry)) (now (self .exit)) state which (S·Scale .level grade))
             (λ _. now (self .exit) ≡ now (self .entry)) ⌝ }
     {
-        let n = states_within(self.n);
-        let m = marks_within(self.m);
-        if state >= n {
+        let n = self.n;
+        let m = self.m;
+        if state >= states_within(n) {
             return Err(MarkRefusal::State);
         }
-        if which >= m {
+        if which >= marks_within(m) {
             return Err(MarkRefusal::Mark);
         }
-        put(self.grades, state * (n + m) + (n + which), grade);
+        put_mark(self.grades, n, m, state, which, grade);
         Ok(())
     }
 }
@@ -151,20 +203,14 @@ pub impl<'a, S: Scale> Structure for Sheet<'a, S> as SheetStructure {
     }
 
     fn step_grade(&mut self, from: usize, to: usize) -> S {
-        let n = states_within(self.n);
-        let m = marks_within(self.m);
-        if from >= n || to >= n {
-            return S::floor();
-        }
-        read(self.grades, from * (n + m) + to)
+        let n = self.n;
+        let m = self.m;
+        read_step(self.grades, n, m, from, to)
     }
 
     fn mark_grade(&mut self, state: usize, which: usize) -> S {
-        let n = states_within(self.n);
-        let m = marks_within(self.m);
-        if state >= n || which >= m {
-            return S::floor();
-        }
-        read(self.grades, state * (n + m) + (n + which))
+        let n = self.n;
+        let m = self.m;
+        read_mark(self.grades, n, m, state, which)
     }
 }

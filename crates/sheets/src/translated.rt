@@ -1,5 +1,6 @@
 ghost use mathlib.Core.Path.{_≡_};
-ghost use Rattle.sheets.specs.Tables.{through};
+ghost use denote.Ref.{now};
+ghost use Rattle.sheets.specs.Tables.{Bounded, through};
 use crate::Structure;
 use grades::GradeMap;
 
@@ -19,6 +20,34 @@ impl<K, M> Translated<K, M> {
     }
 }
 
+/// A step's grade below, as the map takes it.
+fn step_through<M: GradeMap, K: Structure<Grade = M::From>>(
+    below: &mut K,
+    map: &M,
+    from: usize,
+    to: usize,
+) -> M::To
+    ensures value { λ r. ⌜ To·Scale .level r ≡ M·GradeMap .table (now (map .entry)) (K·Structure .tables (now (below .entry)) .step from to) ⌝ }
+    ensures same { λ _. ⌜ now (below .exit) ≡ now (below .entry) ⌝ }
+    ensures bounded { λ _. ⌜ Bounded (To·Scale .height) (through (M·GradeMap .table (now (map .entry))) (To·Scale .height) (K·Structure .tables (now (below .entry)))) ⌝ }
+{
+    map.image(below.step_grade(from, to))
+}
+
+/// A mark's grade below, as the map takes it.
+fn mark_through<M: GradeMap, K: Structure<Grade = M::From>>(
+    below: &mut K,
+    map: &M,
+    state: usize,
+    which: usize,
+) -> M::To
+    ensures value { λ r. ⌜ To·Scale .level r ≡ M·GradeMap .table (now (map .entry)) (K·Structure .tables (now (below .entry)) .mark state which) ⌝ }
+    ensures same { λ _. ⌜ now (below .exit) ≡ now (below .entry) ⌝ }
+    ensures bounded { λ _. ⌜ Bounded (To·Scale .height) (through (M·GradeMap .table (now (map .entry))) (To·Scale .height) (K·Structure .tables (now (below .entry)))) ⌝ }
+{
+    map.image(below.mark_grade(state, which))
+}
+
 pub impl<M: GradeMap, K: Structure<Grade = M::From>> Structure for Translated<
     K,
     M,
@@ -36,12 +65,10 @@ pub impl<M: GradeMap, K: Structure<Grade = M::From>> Structure for Translated<
     }
 
     fn step_grade(&mut self, from: usize, to: usize) -> M::To {
-        let grade = self.below.step_grade(from, to);
-        self.map.image(grade)
+        step_through(&mut self.below, &self.map, from, to)
     }
 
     fn mark_grade(&mut self, state: usize, which: usize) -> M::To {
-        let grade = self.below.mark_grade(state, which);
-        self.map.image(grade)
+        mark_through(&mut self.below, &self.map, state, which)
     }
 }

@@ -1,0 +1,9 @@
+use native.Mathlib.Omega.{arith}
+use Rattle.sheets.proofs.Grids.{drawn-cell, drawn-tables}
+use Rattle.sheets.proofs.sheet.put_step.Needs as need
+
+pub returns : need.returns
+returns g c = record {
+  cell = drawn-cell (g .S·Scale .level) (c .args .n) (c .args .m) (g .S·Scale .height) (c .states-within-n .result) (c .marks-within-m .result) (c .args .grades .now) (c .put .last .grades) (c .states-within-n .ensures) (c .marks-within-m .ensures) (c .args .from) (c .args .to) (c .args .grade) (c .put .ensures);
+  tables = drawn-tables (g .S·Scale .level) (c .args .n) (c .args .m) (g .S·Scale .height) (c .states-within-n .result) (c .marks-within-m .result) (c .args .grades .now) (c .put .last .grades) (c .states-within-n .ensures) (c .marks-within-m .ensures) (c .args .from) (c .args .to) (c .args .grade) (omega arith) (omega arith) (c .put .ensures);
+}
