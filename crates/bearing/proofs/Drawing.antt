@@ -1,25 +1,15 @@
 -- One draw or mark after another.
-use mathlib.Core.Path.{_≡_, refl, ap, _∙_}
+use mathlib.Core.Path.{_≡_, _∙_, ap}
 use Prim.Native.Nat.{ℕ}
-use Rattle.grades.specs.declared.thousandths.Thousandths.{Thousandths}
-use Rattle.grades.specs.Levels.{thousandths-level}
 use Rattle.sheets.specs.declared.sheet.Sheet.{Sheet}
-use Rattle.sheets.specs.Sheets.{Kept, Drawn, Marked}
+use Rattle.sheets.specs.Sheets.{Kept}
 use Rattle.sheets.specs.Tables.{Tables, with-step, with-mark}
-use Rattle.bearing.specs.Bearing.{Becomes}
 
-pub none-yet : (sheet : Sheet Thousandths) → Becomes (λ T. T) sheet sheet
-none-yet sheet = record { whole = λ w. w; tables = λ w. refl }
+pub kept-then : {S : Type 0} {a b c : Sheet S} → Kept a b → Kept b c → Kept a c
+kept-then p q = record { n = q .n ∙ p .n; m = q .m ∙ p .m; length-same = q .length-same ∙ p .length-same; memory-same = q .memory-same ∙ p .memory-same }
 
-module _ {f : Tables → Tables} {first before after : Sheet Thousandths} (so-far : Becomes f first before) (kept : Kept before after) where
-  pub drawn-next : (from to p : ℕ) → Drawn thousandths-level 1000 before after from to p → Becomes (λ T. with-step (f T) from to p) first after
-  drawn-next from to p d = record {
-    whole = λ w. kept .whole (so-far .whole w);
-    tables = λ w. d .tables (so-far .whole w) ∙ ap (λ T. with-step T from to p) (so-far .tables w);
-  }
+pub drawn-then : (T before after : Tables) (from to p : ℕ) → before ≡ T → after ≡ with-step before from to p → after ≡ with-step T from to p
+drawn-then T before after from to p so-far e = e ∙ ap (λ x. with-step x from to p) so-far
 
-  pub marked-next : (state which p : ℕ) → Marked thousandths-level 1000 before after state which p → Becomes (λ T. with-mark (f T) state which p) first after
-  marked-next state which p d = record {
-    whole = λ w. kept .whole (so-far .whole w);
-    tables = λ w. d .tables (so-far .whole w) ∙ ap (λ T. with-mark T state which p) (so-far .tables w);
-  }
+pub marked-then : (T before after : Tables) (state which p : ℕ) → before ≡ T → after ≡ with-mark before state which p → after ≡ with-mark T state which p
+marked-then T before after state which p so-far e = e ∙ ap (λ x. with-mark x state which p) so-far

@@ -1,7 +1,6 @@
 // The bearing of a last mill, from the drawing of its wear sheet to the sheet's file.
 ghost use denote.Ref.{now};
-ghost use Rattle.std.specs.Vec.{made};
-ghost use Rattle.bearing.specs.Bearing.{Becomes, with-steps, with-marks};
+ghost use Rattle.bearing.specs.Bearing.{Becomes, thousandths-of, with-steps, with-marks, bearing-steps, bearing-marks};
 use files::save;
 use grades::Scale;
 use grades::Thousandths;
@@ -33,10 +32,8 @@ const HEADER: usize = 10;
 
 const RECORD: usize = 5;
 
-const FILE: usize = 55;
-
 fn draw_steps(sheet: &mut Sheet<Thousandths>) -> Result<(), DrawRefusal>
-    ensures { λ r. ⌜ made r (λ _. Becomes with-steps (now (sheet .entry)) (now (sheet .exit))) ⌝ }
+    ensures { λ r. ⌜ Becomes (with-steps (thousandths-of (now (sheet .entry))) bearing-steps) (now (sheet .entry)) (now (sheet .exit)) r ⌝ }
 {
     sheet.draw(0, 0, Thousandths(700))?;
     sheet.draw(0, 1, Thousandths(900))?;
@@ -47,7 +44,7 @@ fn draw_steps(sheet: &mut Sheet<Thousandths>) -> Result<(), DrawRefusal>
 }
 
 fn mark_states(sheet: &mut Sheet<Thousandths>) -> Result<(), MarkRefusal>
-    ensures { λ r. ⌜ made r (λ _. Becomes with-marks (now (sheet .entry)) (now (sheet .exit))) ⌝ }
+    ensures { λ r. ⌜ Becomes (with-marks (thousandths-of (now (sheet .entry))) bearing-marks) (now (sheet .entry)) (now (sheet .exit)) r ⌝ }
 {
     sheet.mark(0, 0, Thousandths(1000))?;
     sheet.mark(1, 0, Thousandths(500))?;
@@ -58,6 +55,20 @@ fn mark_states(sheet: &mut Sheet<Thousandths>) -> Result<(), MarkRefusal>
     Ok(())
 }
 
+/// Draws the steps and marks the states, or answers the number of the refusal.
+fn draw_bearing(sheet: &mut Sheet<Thousandths>) -> Result<(), u8>
+    ensures { λ r. ⌜ Becomes (with-marks (with-steps (thousandths-of (now (sheet .entry))) bearing-steps) bearing-marks) (now (sheet .entry)) (now (sheet .exit)) r ⌝ }
+{
+    if let Err(refusal) = draw_steps(sheet) {
+        return Err(refusal.number());
+    }
+    if let Err(refusal) = mark_states(sheet) {
+        return Err(refusal.number());
+    }
+    Ok(())
+}
+
+/// A line for each step above the floor.
 fn print_steps<K: Structure>(rt: &impl Print, structure: &mut K) -> io::Result<()>
 where
     K::Grade: Display,
@@ -74,17 +85,19 @@ where
     Ok(())
 }
 
+/// A line for each mark above the floor.
 fn print_marks<K: Structure>(rt: &impl Print, structure: &mut K) -> io::Result<()>
 where
     K::Grade: Display,
 {
-    let states = structure.states();
-    let marks = structure.marks();
-    for which in 0..marks {
+    let size = Size::of(structure);
+    for which in 0..size.marks() {
         let letter = (b'a' + which as u8) as char;
-        for state in 0..states {
+        for state in 0..size.states() {
             let grade = structure.mark_grade(state, which);
-            println!(rt, "mark {letter} in {state}: {grade}")?;
+            if !grade.at_most(<K::Grade as Scale>::floor()) {
+                println!(rt, "mark {letter} in {state}: {grade}")?;
+            }
         }
     }
     Ok(())
@@ -112,18 +125,30 @@ fn print_file(rt: &impl Print, file: &[u8]) -> io::Result<()> {
     Ok(())
 }
 
+fn print_answer(rt: &impl Print, call: &str, refusal: Option<u8>) -> io::Result<()> {
+    match refusal {
+        Some(number) => println!(rt, "{call}: refused, {number}"),
+        None => println!(rt, "{call}: taken"),
+    }
+}
+
 fn print_refusals(rt: &impl Print, sheet: &mut Sheet<Thousandths>) -> io::Result<()> {
-    if let Err(refusal) = sheet.draw(0, STATES, Thousandths(500)) {
-        println!(rt, "step 0 to {STATES}: refused, {}", refusal.number())?;
-    }
-    if let Err(refusal) = sheet.mark(0, MARKS, Thousandths(500)) {
-        println!(rt, "mark c in 0: refused, {}", refusal.number())?;
-    }
-    let mut short = [0; FILE - 1];
-    if let Err(refusal) = save(sheet, &mut short) {
-        println!(rt, "saving into 54 bytes: refused, {}", refusal.number())?;
-    }
-    Ok(())
+    let draw = match sheet.draw(0, 3, Thousandths(500)) {
+        Ok(()) => None,
+        Err(refusal) => Some(refusal.number()),
+    };
+    print_answer(rt, "step 0 to 3", draw)?;
+    let mark = match sheet.mark(0, 2, Thousandths(500)) {
+        Ok(()) => None,
+        Err(refusal) => Some(refusal.number()),
+    };
+    print_answer(rt, "mark c in 0", mark)?;
+    let mut short = [0; 54];
+    let saved = match save(sheet, &mut short) {
+        Ok(_) => None,
+        Err(refusal) => Some(refusal.number()),
+    };
+    print_answer(rt, "saving into 54 bytes", saved)
 }
 
 fn run(rt: &LibcRuntime) -> Result<(), AnyError> {
@@ -132,18 +157,21 @@ fn run(rt: &LibcRuntime) -> Result<(), AnyError> {
         return Err("the size is refused".into());
     };
     let mut sheet = Sheet::new(size, &mut memory);
-    let (Ok(()), Ok(())) = (draw_steps(&mut sheet), mark_states(&mut sheet)) else {
+    if draw_bearing(&mut sheet).is_err() {
         return Err("a step or a mark is refused".into());
-    };
-    println!(rt, "the bearing sheet, in thousandths")?;
+    }
+    println!(
+        rt,
+        "the bearing sheet, in thousandths: what is above the floor"
+    )?;
     print_steps(rt, &mut sheet)?;
     print_marks(rt, &mut sheet)?;
-    let mut out = [0; FILE];
+    let mut out = [0; 100];
     let Ok(length) = save(&mut sheet, &mut out) else {
         return Err("saving is refused".into());
     };
     println!(rt, "its file, {length} bytes")?;
-    print_file(rt, &out)?;
+    print_file(rt, out.get(0..length).unwrap_or(&out))?;
     println!(rt, "what is refused")?;
     print_refusals(rt, &mut sheet)?;
     println!(rt, "the steps in words")?;

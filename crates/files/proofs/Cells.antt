@@ -12,7 +12,7 @@ use Rattle.std.specs.Iters.{counting}
 use Rattle.files.specs.declared.cell.Kind.{Kind}
 use Rattle.files.specs.declared.cell.Kind.the-variants.{Step, Mark}
 use Rattle.files.specs.declared.cell.Cell.{Cell}
-use Rattle.files.specs.Format.{cell, row, rows, cells}
+use Rattle.files.specs.Format.{cell, of-state, of-states, cells}
 use Rattle.files.specs.Order.{cell-at, first-cells}
 
 -- lists made from functions of the index are equal where the functions are
@@ -36,34 +36,33 @@ map-counting-append f a b (suc n) k e =
     let more : suc n + k ≡ suc (n + k) = omega arith in
     ap (λ xs. f a ∷ xs) (map-counting-append f (a + 1) b n k (omega arith)) ∙ ap (λ (y : ℕ). map f (counting a y)) (sym more)
 
--- the cell at an index of rows of one width
-abbrev in-rows : Kind → (width : ℕ) → ℕ → Cell
-in-rows kind width i = cell kind (i / width) (i % width)
+-- the cell at an index of states of so many cells each
+abbrev in-states : Kind → (many : ℕ) → ℕ → Cell
+in-states kind many i = cell kind (i / many) (i % many)
 
-rows-by-index : (kind : Kind) (first width count : ℕ) → rows kind first width count ≡ map (in-rows kind width) (counting (first * width) (count * width))
-rows-by-index kind first width zero = let z : 0 * width ≡ 0 = omega arith in ap (λ (n : ℕ). map (in-rows kind width) (counting (first * width) n)) (sym z)
-rows-by-index kind first width (suc count) =
-    let next : (first + 1) * width ≡ first * width + width = omega (arith, suc-mul first width) in
-    let more : width + count * width ≡ suc count * width = omega (arith, suc-mul count width) in
+states-by-index : (kind : Kind) (state many states : ℕ) → of-states kind state many states ≡ map (in-states kind many) (counting (state * many) (states * many))
+states-by-index kind state many zero = let z : 0 * many ≡ 0 = omega arith in ap (λ (n : ℕ). map (in-states kind many) (counting (state * many) n)) (sym z)
+states-by-index kind state many (suc states) =
+    let next : (state + 1) * many ≡ state * many + many = omega (arith, suc-mul state many) in
+    let more : many + states * many ≡ suc states * many = omega (arith, suc-mul states many) in
     ap₂ (λ xs ys. xs ++ ys)
-    (map-counting-same (cell kind first) (in-rows kind width) 0 (first * width) width (λ j h.
+    (map-counting-same (cell kind state) (in-states kind many) 0 (state * many) many (λ j h.
     let j0 : 0 + j ≡ j = omega arith in
-    ap (cell kind first) j0 ∙ ap₂ (λ (a b : ℕ). cell kind a b) (sym (digits-div first h)) (sym (digits-mod first h))))
-    (rows-by-index kind (first + 1) width count)
-    ∙ map-counting-append (in-rows kind width) (first * width) ((first + 1) * width) width (count * width) next
-    ∙ ap (λ (n : ℕ). map (in-rows kind width) (counting (first * width) n)) more
+    ap (cell kind state) j0 ∙ ap₂ (λ (a b : ℕ). cell kind a b) (sym (digits-div state h)) (sym (digits-mod state h))))
+    (states-by-index kind (state + 1) many states)
+    ∙ map-counting-append (in-states kind many) (state * many) ((state + 1) * many) many (states * many) next
+    ∙ ap (λ (n : ℕ). map (in-states kind many) (counting (state * many) n)) more
 
 pub cells-by-index : (n m : ℕ) → cells n m ≡ first-cells n m (n * (n + m))
 cells-by-index n m =
-    let z : (w : ℕ) → 0 * w ≡ 0 = λ w. omega arith in
     ap₂ (λ xs ys. xs ++ ys)
-    (rows-by-index Step 0 n n ∙ map-counting-same (in-rows Step n) (cell-at n m) (0 * n) 0 (n * n) (λ j h.
+    (states-by-index Step 0 n n ∙ map-counting-same (in-states Step n) (cell-at n m) (0 * n) 0 (n * n) (λ j h.
     let j0 : 0 * n + j ≡ j = omega arith in
     let j1 : 0 + j ≡ j = omega arith in
-    ap (in-rows Step n) j0 ∙ sym (ap (cell-at n m) j1 ∙ rw (lt-ltb j (n * n) h))))
-    (rows-by-index Mark 0 m n ∙ map-counting-same (in-rows Mark m) (cell-at n m) (0 * m) (n * n) (n * m) (λ j h.
+    ap (in-states Step n) j0 ∙ sym (ap (cell-at n m) j1 ∙ rw (lt-ltb j (n * n) h))))
+    (states-by-index Mark 0 m n ∙ map-counting-same (in-states Mark m) (cell-at n m) (0 * m) (n * n) (n * m) (λ j h.
     let j0 : 0 * m + j ≡ j = omega arith in
     let j1 : n * n + j - n * n ≡ j = omega arith in
-    ap (in-rows Mark m) j0 ∙ sym (rw (le-ltb (n * n + j) (n * n) (omega arith)) (ap (in-rows Mark m) j1))))
+    ap (in-states Mark m) j0 ∙ sym (rw (le-ltb (n * n + j) (n * n) (omega arith)) (ap (in-states Mark m) j1))))
     ∙ map-counting-append (cell-at n m) 0 (n * n) (n * n) (n * m) (omega arith)
     ∙ ap (λ (k : ℕ). first-cells n m k) (sym (mul-add n n m))

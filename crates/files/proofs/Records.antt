@@ -8,6 +8,7 @@ use lib.ListN.{length, drop, length-append}
 use lib.Seq.{sets, sets-eq}
 use Rattle.std.specs.Iters.{counting}
 use Rattle.std.specs.shelf.Lists.{kept-by}
+use Rattle.std.specs.Options.{isSome}
 use Rattle.std.specs.declared.option.Option.{Option}
 use Rattle.std.specs.declared.option.Option.the-variants.{None, Some}
 use Rattle.std.proofs.shelf.Lists.{append-nil}
@@ -15,7 +16,7 @@ use Rattle.std.proofs.shelf.Counted.{map-counting-more}
 use Rattle.std.proofs.shelf.Elements.{kept-by-append}
 use Rattle.files.specs.declared.cell.Cell.{Cell}
 use Rattle.files.specs.declared.cell.Record.{Record}
-use Rattle.files.specs.Format.{cells, above-floor, record-of, recorded, records-of, record-bytes, bytes-of, header, file-of}
+use Rattle.files.specs.Format.{cells, above-floor, record-of, recorded, records-of, record-bytes, bytes-of, header, table-records, file-of, file-length}
 use Rattle.files.specs.Order.{cell-at, first-cells}
 use Rattle.files.specs.Progress.{Counted, Put}
 use Rattle.files.proofs.Cells.{map-counting-append, cells-by-index}
@@ -33,6 +34,13 @@ module _ {K : Type 0} (tables : K → Tables) (code : ℕ → ℕ) (k before : K
       by : (b : Bool) → Some entry ≡ cond b (Some (record-of code (tables before) c)) None → (b ≡ true) × (entry ≡ record-of code (tables before) c)
       by true e = (refl, cc)
       by false e = let z : _≡_ {A = ℕ} 0 1 = cc in absurd (omega arith)
+
+  pub tested : isSome read ≡ above-floor (tables before) c
+  tested = ap isSome read-before ∙ by (above-floor (tables before) c)
+    where
+      by : (b : Bool) → isSome (cond b (Some (record-of code (tables before) c)) None) ≡ b
+      by true = refl
+      by false = refl
 
   pub missed : ((entry : Record) → read ≡ Some entry → ⊥) → above-floor (tables before) c ≡ false
   missed none = by (above-floor (tables before) c) read-before
@@ -113,7 +121,7 @@ module _ (code : ℕ → ℕ) (T : Tables) (n m i : ℕ) where
   }
 
   -- the memory has room for one record more
-  pub put-room : (before out : List ℕ) (at : ℕ) → i < n * (n + m) → above-floor T (cell-at n m i) ≡ true → 10 + 5 * length (records-of code T (cells n m)) ≤ length before → length out ≡ length before →
+  pub put-room : (before out : List ℕ) (at : ℕ) → i < n * (n + m) → above-floor T (cell-at n m i) ≡ true → file-length (length (records-of code T (cells n m))) ≤ length before → length out ≡ length before →
       Put before out at (records-of code T (first-cells n m i)) → at + 5 ≤ length out
   put-room before out at h above room long so-far =
       omega (
@@ -127,20 +135,20 @@ module _ (code : ℕ → ℕ) (T : Tables) (n m i : ℕ) where
 
 -- ---- the whole file
 
-pub length-file : (number : ℕ) (code : ℕ → ℕ) (T : Tables) → length (file-of number code T) ≡ 10 + 5 * length (records-of code T (cells (T .states) (T .marks)))
+pub length-file : (number : ℕ) (code : ℕ → ℕ) (T : Tables) → length (file-of number code T) ≡ file-length (length (table-records code T))
 unfolding file-of
-length-file number code T = omega (arith, length-bytes (records-of code T (cells (T .states) (T .marks))))
+length-file number code T = omega (arith, length-bytes (table-records code T))
 
--- the records of a structure that is as it was, asked by its own sizes
+-- the records of a structure that is as it was, asked by its own size
 pub same-records : {K : Type 0} (tables : K → Tables) (code : ℕ → ℕ) (k before : K) (n m : ℕ) → k ≡ before → n ≡ tables before .states → m ≡ tables before .marks →
-    records-of code (tables k) (cells n m) ≡ records-of code (tables before) (cells (tables before .states) (tables before .marks))
+    records-of code (tables k) (cells n m) ≡ table-records code (tables before)
 same-records tables code k before n m ek en em =
     ap (λ x. records-of code (tables x) (cells n m)) ek ∙ ap₂ (λ (a b : ℕ). records-of code (tables before) (cells a b)) en em
 
 -- the header and the records of tables, written one after the other, are their file
 pub file-written : (number scale n m count : ℕ) (code : ℕ → ℕ) (T : Tables) (rs : List Record) (before headed after : List ℕ) →
-    number ≡ scale → n ≡ T .states → m ≡ T .marks → rs ≡ records-of code T (cells (T .states) (T .marks)) → count ≡ length rs → 10 + 5 * count ≤ length before →
-    headed ≡ sets before 0 (header number n m count) → after ≡ sets headed 10 (bytes-of rs) → after ≡ file-of scale code T ++ drop (10 + 5 * count) before
+    number ≡ scale → n ≡ T .states → m ≡ T .marks → rs ≡ table-records code T → count ≡ length rs → file-length count ≤ length before →
+    headed ≡ sets before 0 (header number n m count) → after ≡ sets headed 10 (bytes-of rs) → after ≡ file-of scale code T ++ drop (file-length count) before
 unfolding file-of
 file-written number scale n m count code T rs before headed after es en em er ec room eh ea =
     let long : 0 + length (header number n m count ++ bytes-of rs) ≡ 10 + 5 * count = omega (arith, length-append (header number n m count) (bytes-of rs), length-bytes rs) in

@@ -2,7 +2,7 @@
 use mathlib.Core.Path.{_≡_}
 use mathlib.Core.Bool.{Bool, cond}
 use mathlib.Core.List.{List, [], _∷_, _++_, map}
-use Prim.Native.Nat.{ℕ, zero, suc, _+_, _/_, _%_}
+use Prim.Native.Nat.{ℕ, zero, suc, _+_, _*_, _/_, _%_, _≤_}
 use lib.Dec.{ltb}
 use lib.ListN.{length, drop}
 use Rattle.std.specs.Iters.{counting}
@@ -20,18 +20,18 @@ use Rattle.sheets.specs.Tables.{Tables}
 abbrev pub cell : Kind → (first second : ℕ) → Cell
 cell kind first second = record { kind = kind; first = first; second = second }
 
--- the cells of one state: its steps, or its marks
-abbrev pub row : Kind → (first width : ℕ) → List Cell
-row kind first width = map (cell kind first) (counting 0 width)
+-- the cells of one state: its steps, or its marks, so many
+abbrev pub of-state : Kind → (state many : ℕ) → List Cell
+of-state kind state many = map (cell kind state) (counting 0 many)
 
--- the rows of so many states, from one on
-abbrev pub rows : Kind → (first width count : ℕ) → List Cell
-rows kind first width zero = []
-rows kind first width (suc count) = row kind first width ++ rows kind (first + 1) width count
+-- the cells of so many states, from one on
+abbrev pub of-states : Kind → (state many states : ℕ) → List Cell
+of-states kind state many zero = []
+of-states kind state many (suc states) = of-state kind state many ++ of-states kind (state + 1) many states
 
 -- every cell, ascending by kind, by first number and by second number
 abbrev pub cells : (n m : ℕ) → List Cell
-cells n m = rows Step 0 n n ++ rows Mark 0 m n
+cells n m = of-states Step 0 n n ++ of-states Mark 0 m n
 
 abbrev pub level-by : Tables → Kind → (first second : ℕ) → ℕ
 level-by T Step from to = T .step from to
@@ -63,7 +63,7 @@ abbrev pub kind-byte : Kind → ℕ
 kind-byte Step = 1
 kind-byte Mark = 2
 
--- two bytes, the low one first
+-- a number below 65,536 in two bytes, the low one first
 abbrev pub low-first : ℕ → List ℕ
 low-first x = x % 256 ∷ (x / 256 ∷ [])
 
@@ -78,13 +78,21 @@ bytes-of (r ∷ rs) = record-bytes r ++ bytes-of rs
 abbrev pub header : (number n m count : ℕ) → List ℕ
 header number n m count = 87 ∷ (83 ∷ (72 ∷ (low-first 1 ++ (number ∷ (n ∷ (m ∷ low-first count))))))
 
+-- the records of these tables
+abbrev pub table-records : (code : ℕ → ℕ) → Tables → List Record
+table-records code T = records-of code T (cells (T .states) (T .marks))
+
 -- the file of these tables, on a scale of this number and these codes
 unfoldable pub file-of : (number : ℕ) → (code : ℕ → ℕ) → Tables → List ℕ
-file-of number code T =
-    header number (T .states) (T .marks) (length (records-of code T (cells (T .states) (T .marks))))
-    ++ bytes-of (records-of code T (cells (T .states) (T .marks)))
+file-of number code T = header number (T .states) (T .marks) (length (table-records code T)) ++ bytes-of (table-records code T)
 
--- the memory begins with the file, of this length, and goes on as it was
-pub record Written (file before after : List ℕ) (long : ℕ) : Type 0 where
-  pub answered : long ≡ length file
-  pub bytes : after ≡ file ++ drop long before
+-- a file of k records has 10 + 5k bytes
+abbrev pub file-length : (records : ℕ) → ℕ
+file-length records = 10 + 5 * records
+
+-- the memory begins with the file, whose length is answered, and goes on as it was
+pub record Saved (number : ℕ) (code : ℕ → ℕ) (T : Tables) (before after : List ℕ) (answer : ℕ) : Type 0 where
+  pub few : length (table-records code T) ≤ 5120
+  pub sized : answer ≡ file-length (length (table-records code T))
+  pub whole : answer ≡ length (file-of number code T)
+  pub bytes : after ≡ file-of number code T ++ drop answer before

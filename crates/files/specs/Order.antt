@@ -1,4 +1,4 @@
--- The same order of cells by an index: the steps, row by row, and then the marks.
+-- The cells by an index, as saving goes through them. No part of the format: proofs/Cells shows that it is the order of the file.
 use mathlib.Core.Bool.{cond}
 use mathlib.Core.List.{List, map}
 use Prim.Native.Nat.{ℕ, _-_, _*_, _/_, _%_}

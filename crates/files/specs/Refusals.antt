@@ -4,12 +4,13 @@ use Prim.Native.Nat.{ℕ}
 use lib.Dec.{leb}
 use Rattle.std.specs.declared.option.Option.{Option}
 use Rattle.std.specs.declared.option.Option.the-variants.{None, Some}
+use Rattle.files.specs.Format.{file-length}
 use Rattle.files.specs.declared.saving.SaveRefusal.{SaveRefusal}
 use Rattle.files.specs.declared.saving.SaveRefusal.the-variants.{Memory}
 
 abbrev pub save-number : SaveRefusal → ℕ
 save-number Memory = 24
 
--- a file of this length, into memory of this length
-abbrev pub save-refusal : (file memory : ℕ) → Option SaveRefusal
-save-refusal file memory = cond (leb file memory) None (Some Memory)
+-- a file of so many records, into memory of this length
+abbrev pub save-refusal : (records memory : ℕ) → Option SaveRefusal
+save-refusal records memory = cond (leb (file-length records) memory) None (Some Memory)

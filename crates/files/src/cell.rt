@@ -3,8 +3,8 @@ ghost use Prim.Native.Nat.{_+_, _*_, _<_};
 ghost use denote.Ref.{now};
 ghost use Rattle.files.specs.Format.{kind-byte, level-at, recorded};
 ghost use Rattle.files.specs.Order.{cell-at};
-use crate::extent::Extent;
 use grades::Scale;
+use sheets::Size;
 use sheets::Structure;
 
 /// What a record is of: a step from a state to a state, or a mark in a state.
@@ -38,34 +38,25 @@ pub(crate) struct Record {
     pub(crate) code: u16,
 }
 
-/// The sizes of a structure, which are within the limits.
-pub(crate) fn extent_of<K: Structure>(structure: &mut K) -> Extent
-    ensures states { λ r. ⌜ r .states ≡ K·Structure .tables (now (structure .entry)) .states ⌝ }
-    ensures marks { λ r. ⌜ r .marks ≡ K·Structure .tables (now (structure .entry)) .marks ⌝ }
-    ensures same { λ _. ⌜ now (structure .exit) ≡ now (structure .entry) ⌝ }
-{
-    let states = structure.states();
-    let marks = structure.marks();
-    Extent { states, marks }
-}
-
 /// The cell at an index, in the order of the file.
-fn cell_at(extent: Extent, index: usize) -> Cell
-    requires { ⌜ index < extent .states * (extent .states + extent .marks) ⌝ }
-    ensures { λ r. ⌜ r ≡ cell-at (extent .states) (extent .marks) index ⌝ }
+fn cell_at(size: Size, index: usize) -> Cell
+    requires { ⌜ index < size .states * (size .states + size .marks) ⌝ }
+    ensures { λ r. ⌜ r ≡ cell-at (size .states) (size .marks) index ⌝ }
 {
-    let steps = extent.states * extent.states;
-    if index < steps {
+    let n = size.states();
+    let m = size.marks();
+    if index < n * n {
         return Cell {
             kind: Kind::Step,
-            first: (index / extent.states) as u8,
-            second: (index % extent.states) as u8,
+            first: (index / n) as u8,
+            second: (index % n) as u8,
         };
     }
+    let index = index - n * n;
     Cell {
         kind: Kind::Mark,
-        first: ((index - steps) / extent.marks) as u8,
-        second: ((index - steps) % extent.marks) as u8,
+        first: (index / m) as u8,
+        second: (index % m) as u8,
     }
 }
 
@@ -82,16 +73,12 @@ fn grade_at<K: Structure>(structure: &mut K, cell: Cell) -> K::Grade
 }
 
 /// The record of the cell at an index, or nothing where that is at the floor.
-pub(crate) fn record_at<K: Structure>(
-    structure: &mut K,
-    extent: Extent,
-    index: usize,
-) -> Option<Record>
-    requires { ⌜ index < extent .states * (extent .states + extent .marks) ⌝ }
-    ensures value { λ r. ⌜ r ≡ recorded (Grade·Scale .code) (K·Structure .tables (now (structure .entry))) (cell-at (extent .states) (extent .marks) index) ⌝ }
+pub(crate) fn record_at<K: Structure>(structure: &mut K, size: Size, index: usize) -> Option<Record>
+    requires { ⌜ index < size .states * (size .states + size .marks) ⌝ }
+    ensures value { λ r. ⌜ r ≡ recorded (Grade·Scale .code) (K·Structure .tables (now (structure .entry))) (cell-at (size .states) (size .marks) index) ⌝ }
     ensures same { λ _. ⌜ now (structure .exit) ≡ now (structure .entry) ⌝ }
 {
-    let cell = cell_at(extent, index);
+    let cell = cell_at(size, index);
     let grade = grade_at(structure, cell);
     if grade.at_most(<K::Grade as Scale>::floor()) {
         return None;

@@ -1,5 +1,4 @@
 mod cell;
-mod extent;
 mod saving;
 
 pub use saving::SaveRefusal;

@@ -6,7 +6,7 @@ use Prim.Native.Nat.{ℕ, _≤_}
 use native.Mathlib.Omega.{arith}
 use lib.Dec.{leb}
 use Rattle.std.proofs.shelf.Tests.{leb-true, leb-false, and-parts}
-use Rattle.grades.specs.Tables.{spans}
+use Rattle.grades.specs.Maps.{spans}
 
 abbrev pub rising : (low : ℕ) → List (ℕ × ℕ) → (rest : ℕ) → Bool
 rising low [] rest = leb low rest

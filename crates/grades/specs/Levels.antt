@@ -1,5 +1,5 @@
 -- The levels of the three scales, from 0 (the floor) to the scale's height (the top).
-use Prim.Native.Nat.{ℕ, min}
+use Prim.Native.Nat.{ℕ, _-_, min}
 use Rattle.grades.specs.declared.thousandths.Thousandths.{Thousandths}
 use Rattle.grades.specs.declared.words.Words.{Words}
 use Rattle.grades.specs.declared.words.Words.the-variants.{Never, Hardly, Seldom, Even, Often, Mostly, Sure}
@@ -19,6 +19,24 @@ word-level Often = 4
 word-level Mostly = 5
 word-level Sure = 6
 
-abbrev pub answer-level : YesNo → ℕ
-answer-level No = 0
-answer-level Yes = 1
+abbrev pub yes-no-level : YesNo → ℕ
+yes-no-level No = 0
+yes-no-level Yes = 1
+
+-- ---- opposites
+
+abbrev pub thousandths-opposite : Thousandths → Thousandths
+thousandths-opposite g = record { 0 = 1000 - thousandths-level g }
+
+abbrev pub word-opposite : Words → Words
+word-opposite Never = Sure
+word-opposite Hardly = Mostly
+word-opposite Seldom = Often
+word-opposite Even = Even
+word-opposite Often = Seldom
+word-opposite Mostly = Hardly
+word-opposite Sure = Never
+
+abbrev pub yes-no-opposite : YesNo → YesNo
+yes-no-opposite No = Yes
+yes-no-opposite Yes = No

@@ -1,4 +1,4 @@
 pub mod Levels
+pub mod Maps
 pub mod Names
 pub mod Refusals
-pub mod Tables

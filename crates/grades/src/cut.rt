@@ -2,7 +2,7 @@ ghost use mathlib.Core.Path.{_≡_};
 ghost use mathlib.Core.Bool.{false};
 ghost use Rattle.std.specs.Results.{Cases, errPart};
 ghost use Rattle.grades.specs.Refusals.{cut-number, cut-refusal};
-ghost use Rattle.grades.specs.Tables.{cut-at};
+ghost use Rattle.grades.specs.Maps.{cut-at};
 use crate::GradeMap;
 use crate::Scale;
 use crate::YesNo;

@@ -1,5 +1,6 @@
 ghost use mathlib.Core.Path.{_≡_};
 ghost use mathlib.Core.Logic.{_⊎_};
+ghost use mathlib.Core.Bool.{Bool};
 ghost use Prim.Native.Nat.{ℕ, _-_, _≤_};
 ghost use lib.Dec.{T, leb};
 ghost use Rattle.std.specs.Options.{Cases};
@@ -17,19 +18,30 @@ pub trait Scale: Copy {
     // the code of the grades of a level
     ghost code: { ℕ → ℕ };
 
+    // whether one grade is at most another
+    ghost order: { Self → Self → Bool };
+
+    ghost floor: { Self };
+
+    ghost top: { Self };
+
+    ghost opposite: { Self → Self };
+
     law positive: { 1 ≤ height };
 
     law limited: { height ≤ 9999 };
 
     law within: { (x : Self) → level x ≤ height };
 
-    law total: { (x y : Self) → T (leb (level x) (level y)) ⊎ T (leb (level y) (level x)) };
+    law ordered: { (x y : Self) → order x y ≡ leb (level x) (level y) };
 
-    law floors: { (x : Self) × (level x ≡ 0) };
+    law total: { (x y : Self) → T (order x y) ⊎ T (order y x) };
 
-    law tops: { (x : Self) × (level x ≡ height) };
+    law floors: { level floor ≡ 0 };
 
-    law opposites: { (x : Self) → (y : Self) × (level y ≡ height - level x) };
+    law tops: { level top ≡ height };
+
+    law opposites: { (x : Self) → level (opposite x) ≡ height - level x };
 
     law codes: { (x : Self) → code (level x) ≤ 9999 };
 
@@ -43,21 +55,21 @@ pub trait Scale: Copy {
         ensures { λ r. ⌜ r ≡ height ⌝ };
 
     fn at_most(self, other: Self) -> bool
-        ensures { λ r. ⌜ r ≡ leb (level self) (level other) ⌝ };
+        ensures { λ r. ⌜ r ≡ order self other ⌝ };
 
     fn floor() -> Self
-        ensures { λ r. ⌜ level r ≡ 0 ⌝ };
+        ensures { λ r. ⌜ level r ≡ level floor ⌝ };
 
     fn top() -> Self
-        ensures { λ r. ⌜ level r ≡ height ⌝ };
+        ensures { λ r. ⌜ level r ≡ level top ⌝ };
 
     fn opposite(self) -> Self
-        ensures { λ r. ⌜ level r ≡ height - level self ⌝ };
+        ensures { λ r. ⌜ level r ≡ level (opposite self) ⌝ };
 
     fn code(self) -> u16
         ensures { λ r. ⌜ r ≡ code (level self) ⌝ };
 
     /// The grade of a code, or nothing where no grade has that code.
     fn of_code(wanted: u16) -> Option<Self>
-        ensures { λ r. ⌜ Cases r ((x : Self) → code (level x) ≡ wanted → ⊥) (λ g. code (level g) ≡ wanted) ⌝ };
+        ensures { λ r. ⌜ Cases r ((x : Self) → code (level x) ≡ wanted → ⊥) (λ grade. code (level grade) ≡ wanted) ⌝ };
 }

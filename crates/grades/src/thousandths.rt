@@ -1,7 +1,8 @@
+ghost use lib.Dec.{leb};
 ghost use mathlib.Core.Path.{_≡_};
 ghost use Rattle.std.specs.Written.{decimal};
 ghost use Rattle.std.specs.declared.option.Option.the-variants.{Some};
-ghost use Rattle.grades.specs.Levels.{thousandths-level};
+ghost use Rattle.grades.specs.Levels.{thousandths-level, thousandths-opposite};
 use crate::Scale;
 use std::fmt;
 
@@ -35,6 +36,14 @@ pub impl Scale for Thousandths as ThousandthsScale {
     ghost number = { 1 };
 
     ghost code = { λ level. level };
+
+    ghost order = { λ x y. leb (thousandths-level x) (thousandths-level y) };
+
+    ghost floor = { record { 0 = 0 } };
+
+    ghost top = { record { 0 = 1000 } };
+
+    ghost opposite = { thousandths-opposite };
 
     fn number() -> u8 {
         1

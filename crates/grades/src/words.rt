@@ -1,5 +1,7 @@
+ghost use Rattle.grades.specs.declared.words.Words.the-variants.{Never, Sure};
+ghost use lib.Dec.{leb};
 ghost use mathlib.Core.Path.{_≡_};
-ghost use Rattle.grades.specs.Levels.{word-level};
+ghost use Rattle.grades.specs.Levels.{word-level, word-opposite};
 ghost use Rattle.grades.specs.Names.{word-name};
 ghost use Rattle.std.specs.declared.option.Option.the-variants.{Some};
 use crate::Scale;
@@ -32,8 +34,7 @@ impl Words {
         }
     }
 
-    /// The word itself.
-    pub fn name(self) -> &'static str
+    fn name(self) -> &'static str
         ensures { λ r. ⌜ now r ≡ word-name self ⌝ }
     {
         match self {
@@ -64,6 +65,14 @@ pub impl Scale for Words as WordsScale {
     ghost number = { 2 };
 
     ghost code = { λ level. level };
+
+    ghost order = { λ x y. leb (word-level x) (word-level y) };
+
+    ghost floor = { Never };
+
+    ghost top = { Sure };
+
+    ghost opposite = { word-opposite };
 
     fn number() -> u8 {
         2

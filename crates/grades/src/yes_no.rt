@@ -1,5 +1,11 @@
-ghost use Rattle.grades.specs.Levels.{answer-level};
+ghost use Rattle.grades.specs.declared.yes_no.YesNo.the-variants.{No, Yes};
+ghost use mathlib.Core.Path.{_≡_};
+ghost use Rattle.std.specs.declared.option.Option.the-variants.{Some};
+ghost use Rattle.grades.specs.Names.{yes-no-name};
+ghost use lib.Dec.{leb};
+ghost use Rattle.grades.specs.Levels.{yes-no-level, yes-no-opposite};
 use crate::Scale;
+use std::fmt;
 
 /// A grade that is yes or no.
 #[derive(Clone, Copy, Debug)]
@@ -8,14 +14,41 @@ pub enum YesNo {
     Yes,
 }
 
+impl YesNo {
+    fn name(self) -> &'static str
+        ensures { λ r. ⌜ now r ≡ yes-no-name self ⌝ }
+    {
+        match self {
+            YesNo::No => "no",
+            YesNo::Yes => "yes",
+        }
+    }
+}
+
+pub impl fmt::Display for YesNo as YesNoDisplay {
+    ghost shown = { λ answer. Some (yes-no-name answer) };
+
+    fn fmt<W: fmt::Write>(&self, f: &mut fmt::Formatter<W>) -> fmt::Result {
+        f.write_str(self.name())
+    }
+}
+
 pub impl Scale for YesNo as YesNoScale {
-    ghost level = { answer-level };
+    ghost level = { yes-no-level };
 
     ghost height = { 1 };
 
     ghost number = { 3 };
 
     ghost code = { λ level. level };
+
+    ghost order = { λ x y. leb (yes-no-level x) (yes-no-level y) };
+
+    ghost floor = { No };
+
+    ghost top = { Yes };
+
+    ghost opposite = { yes-no-opposite };
 
     fn number() -> u8 {
         3

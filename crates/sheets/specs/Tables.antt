@@ -15,12 +15,16 @@ pub record Tables : Type 0 where
   -- in a state, of a mark
   pub mark : ℕ → ℕ → ℕ
 
+-- 1 to 64 states, and at most 16 marks
+pub record Limits (n m : ℕ) : Type 0 where
+  pub least : 1 ≤ n
+  pub most : n ≤ 64
+  pub few : m ≤ 16
+
 -- the sizes lie within the limits, the levels within the height h, and outside the numbers stands the floor
 pub record Bounded (h : ℕ) (T : Tables) : Type 0 where
   pub tall : T .height ≡ h
-  pub least-states : 1 ≤ T .states
-  pub most-states : T .states ≤ 64
-  pub most-marks : T .marks ≤ 16
+  pub limits : Limits (T .states) (T .marks)
   pub steps-within : (s t : ℕ) → T .step s t ≤ h
   pub marks-within : (s k : ℕ) → T .mark s k ≤ h
   pub steps-outside : (s t : ℕ) → (T .states ≤ s) ⊎ (T .states ≤ t) → T .step s t ≡ 0
@@ -40,9 +44,9 @@ through f h T = record {
   mark = λ s k. f (T .mark s k);
 }
 
--- the function, but for p at (a, b)
-abbrev pub but : (ℕ → ℕ → ℕ) → (a b p : ℕ) → ℕ → ℕ → ℕ
-but f a b p s t = cond (eqb s a) (cond (eqb t b) p (f s t)) (f s t)
+-- the function with the value p at (a, b)
+abbrev pub updated : (ℕ → ℕ → ℕ) → (a b p : ℕ) → ℕ → ℕ → ℕ
+updated f a b p s t = cond (eqb s a) (cond (eqb t b) p (f s t)) (f s t)
 
 -- the one step at the level p, and all else as it was
 abbrev pub with-step : Tables → (from to p : ℕ) → Tables
@@ -50,7 +54,7 @@ with-step T from to p = record {
   states = T .states;
   marks = T .marks;
   height = T .height;
-  step = but (T .step) from to p;
+  step = updated (T .step) from to p;
   mark = T .mark;
 }
 
@@ -61,5 +65,5 @@ with-mark T state which p = record {
   marks = T .marks;
   height = T .height;
   step = T .step;
-  mark = but (T .mark) state which p;
+  mark = updated (T .mark) state which p;
 }

@@ -1,6 +1,7 @@
 mod refusal;
 mod sheet;
 mod size;
+mod sizing;
 mod structure;
 mod translated;
 

@@ -15,6 +15,8 @@ pub enum SizeRefusal {
 /// Why a step is not drawn.
 #[derive(Clone, Copy, Debug)]
 pub enum DrawRefusal {
+    /// the sheet is over memory of another length than passed
+    Memory,
     /// no such state
     State,
 }
@@ -22,6 +24,8 @@ pub enum DrawRefusal {
 /// Why a state is not marked.
 #[derive(Clone, Copy, Debug)]
 pub enum MarkRefusal {
+    /// the sheet is over memory of another length than passed
+    Memory,
     /// no such state
     State,
     /// no such mark
@@ -44,6 +48,7 @@ impl DrawRefusal {
         ensures { λ r. ⌜ r ≡ draw-number self ⌝ }
     {
         match self {
+            DrawRefusal::Memory => 5,
             DrawRefusal::State => 2,
         }
     }
@@ -54,6 +59,7 @@ impl MarkRefusal {
         ensures { λ r. ⌜ r ≡ mark-number self ⌝ }
     {
         match self {
+            MarkRefusal::Memory => 5,
             MarkRefusal::State => 2,
             MarkRefusal::Mark => 3,
         }

@@ -1,11 +1,11 @@
 ghost use Prim.Native.Nat.{_≤_};
 
-/// A size within the limits.
+/// How many states and marks a structure has, within the limits.
 #[derive(Clone, Copy, Debug)]
 pub struct Size {
-    pub(crate) n: usize,
-    pub(crate) m: usize,
-    ghost least: { 1 ≤ n },
-    ghost most: { n ≤ 64 },
-    ghost few: { m ≤ 16 },
+    pub(crate) states: usize,
+    pub(crate) marks: usize,
+    ghost least: { 1 ≤ states },
+    ghost most: { states ≤ 64 },
+    ghost few: { marks ≤ 16 },
 }

@@ -10,9 +10,9 @@ returns g c =
     let before = c .args .structure .now in
     let plan = c .args .plan in
     let planned = c .pre .planned in
-    let rs = same-records tables code before before (plan .extent .states) (plan .extent .marks) refl (planned .states) (planned .marks) in
+    let rs = same-records tables code before before (plan .size .states) (plan .size .marks) refl (planned .states) (planned .marks) in
     record {
-      written = file-written (c .number .result) (g .Grade·Scale .number) (plan .extent .states) (plan .extent .marks) (plan .count) code (tables before) _ (c .args .out .now) (c .put-header .last .out) (c .put-records .last .out)
+      written = file-written (c .number .result) (g .Grade·Scale .number) (plan .size .states) (plan .size .marks) (plan .count) code (tables before) _ (c .args .out .now) (c .put-header .last .out) (c .put-records .last .out)
           (c .number .ensures) (planned .states) (planned .marks) rs (planned .count ∙ sym (ap length rs)) (c .pre .room) (c .put-header .ensures) (c .put-records .ensures .written);
       same = c .put-records .ensures .same;
     }

@@ -16,10 +16,10 @@ put-record-requires g c κs =
     let code = g .Grade·Scale .code in
     let tables = g .K·Structure .tables in
     let before = c .args .structure .now in
-    let n = c .args .extent .states in
-    let m = c .args .extent .marks in
+    let n = c .args .size .states in
+    let m = c .args .size .marks in
     let i = c .loop-index .index in
-    put-room code (tables before) n m i (c .args .out .now) (c .loop-index .out) (c .loop-index .at) (c .loop-index-test .taken)
+    put-room code (tables before) n m i (c .args .out .now) (c .loop-index .out) (c .loop-index .at) (omega arith)
     (found tables code _ before (cell-at n m i) _ (c .loop-index .inv .0) (c .record-at .ensures .value) _ (c .in-Some .is) .0) (c .pre) (c .loop-index .kept .out) (c .loop-index .inv .1)
 
 pub add-at : need.add-at
@@ -27,11 +27,11 @@ add-at g c =
     let code = g .Grade·Scale .code in
     let tables = g .K·Structure .tables in
     let before = c .args .structure .now in
-    let n = c .args .extent .states in
-    let m = c .args .extent .marks in
+    let n = c .args .size .states in
+    let m = c .args .size .marks in
     let i = c .loop-index .index in
     let room : c .loop-index .at + 5 ≤ length (c .loop-index .out) =
-    put-room code (tables before) n m i (c .args .out .now) (c .loop-index .out) (c .loop-index .at) (c .loop-index-test .taken)
+    put-room code (tables before) n m i (c .args .out .now) (c .loop-index .out) (c .loop-index .at) (omega arith)
     (found tables code _ before (cell-at n m i) _ (c .loop-index .inv .0) (c .record-at .ensures .value) _ (c .in-Some .is) .0) (c .pre) (c .loop-index .kept .out) (c .loop-index .inv .1) in
     search needs
 
@@ -40,8 +40,8 @@ loop-index-again g c =
     let code = g .Grade·Scale .code in
     let tables = g .K·Structure .tables in
     let before = c .args .structure .now in
-    let n = c .args .extent .states in
-    let m = c .args .extent .marks in
+    let n = c .args .size .states in
+    let m = c .args .size .marks in
     let i = c .loop-index .index in
     let same = c .loop-index .inv .0 in
     let is = c .record-at .ensures .value in (
@@ -57,8 +57,8 @@ loop-index-again g c =
 
 pub returns : need.returns
 returns g c =
-    let n = c .args .extent .states in
-    let m = c .args .extent .marks in
+    let n = c .args .size .states in
+    let m = c .args .size .marks in
     let end : c .loop-index .index ≡ n * (n + m) = omega arith in
     record {
       written = c .loop-index .inv .1 .bytes

@@ -1,9 +1,18 @@
+use borrow.Author.Needs.{needs}
+use mathlib.Core.Path.{refl}
+use Prim.Native.Nat.{_<_}
 use native.Mathlib.Omega.{arith}
-use Rattle.sheets.proofs.Grids.{drawn-cell, drawn-tables}
+use lib.ListN.{length}
+use Rattle.sheets.proofs.Grids.{step-room, drawn}
 use Rattle.sheets.proofs.sheet.put_step.Needs as need
 
+pub index-grades-at : need.index-grades-at
+index-grades-at g c = omega (arith, c .step-at-at .ensures, step-room (c .args .n) (c .args .m) (length (c .args .grades .now)) (c .args .from) (c .args .to) (c .pre .whole) (omega arith) (omega arith))
+
+pub offset-grades-at : need.offset-grades-at
+offset-grades-at g c =
+    let inside : c .step-at-at .result < length (c .args .grades .now) = omega (arith, c .step-at-at .ensures, step-room (c .args .n) (c .args .m) (length (c .args .grades .now)) (c .args .from) (c .args .to) (c .pre .whole) (omega arith) (omega arith)) in
+    search needs
+
 pub returns : need.returns
-returns g c = record {
-  cell = drawn-cell (g .S·Scale .level) (c .args .n) (c .args .m) (g .S·Scale .height) (c .states-within-n .result) (c .marks-within-m .result) (c .args .grades .now) (c .put .last .grades) (c .states-within-n .ensures) (c .marks-within-m .ensures) (c .args .from) (c .args .to) (c .args .grade) (c .put .ensures);
-  tables = drawn-tables (g .S·Scale .level) (c .args .n) (c .args .m) (g .S·Scale .height) (c .states-within-n .result) (c .marks-within-m .result) (c .args .grades .now) (c .put .last .grades) (c .states-within-n .ensures) (c .marks-within-m .ensures) (c .args .from) (c .args .to) (c .args .grade) (omega arith) (omega arith) (c .put .ensures);
-}
+returns g c = drawn (g .S·Scale .level) (c .args .n) (c .args .m) (g .S·Scale .height) (c .args .grades .now) _ (c .pre .whole) (c .step-at-at .result) (c .args .grade) refl (c .args .from) (c .args .to) (omega arith) (omega arith) (c .step-at-at .ensures)

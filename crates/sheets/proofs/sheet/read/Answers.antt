@@ -11,6 +11,6 @@ returns-then-at-grades g c = record {
 
 pub returns-else-at-grades : need.returns-else-at-grades
 returns-else-at-grades g c = record {
-  value = c .floor .ensures ∙ sym (level-past (g .S·Scale .level) (c .args .grades .now) (c .args .at) (omega arith));
+  value = c .floor .ensures ∙ g .S·Scale·met .floors ∙ sym (level-past (g .S·Scale .level) (c .args .grades .now) (c .args .at) (omega arith));
   same = refl;
 }

@@ -6,5 +6,5 @@ pub returns : need.returns
 returns g c = record {
   value = c .states-within .ensures;
   same = refl;
-  bounded = sheet-bounded (g .S·Scale .level) (g .S·Scale .height) (g .S·Scale·met .within) (c .args .self .now .n) (c .args .self .now .m) (c .args .self .now .grades .now);
+  bounded = sheet-bounded (g .S·Scale .level) (g .S·Scale .height) (c .args .self .now .n) (c .args .self .now .m) (c .args .self .now .grades .now) (g .S·Scale·met .within);
 }

@@ -1,5 +1,5 @@
 ghost use mathlib.Core.Bool.{true};
-ghost use Rattle.grades.specs.Tables.{words-to-thousandths, thousandths-to-words};
+ghost use Rattle.grades.specs.Maps.{words-to-thousandths, thousandths-to-words};
 use crate::GradeMap;
 use crate::Thousandths;
 use crate::ThousandthsScale;
