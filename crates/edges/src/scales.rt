@@ -14,31 +14,32 @@ use grades::YesNo;
 use grades::YesNoScale;
 use std::test::*;
 
-/// The code that leads back from a code, or 65,535 where no grade has it.
-fn back<S: Scale>(code: u16) -> u16 {
+/// The code of the grade that a code leads to.
+fn back<S: Scale>(code: u16) -> Option<u16> {
     match S::of_code(code) {
-        Some(grade) => grade.code(),
-        None => u16::MAX,
+        Some(grade) => Some(grade.code()),
+        None => None,
     }
 }
 
 #[test]
 fn codes() -> Result<(), Fail> {
     for code in [0, 1, 6, 1000] {
-        check_eq(back::<Thousandths>(code), code)?;
+        check_eq(back::<Thousandths>(code), Some(code))?;
     }
     for code in [1001, 9999, 65535] {
-        check_eq(back::<Thousandths>(code), u16::MAX)?;
+        check_eq(back::<Thousandths>(code), None)?;
     }
-    check_eq(back::<Words>(0), 0)?;
-    check_eq(back::<Words>(6), 6)?;
-    check_eq(back::<YesNo>(0), 0)?;
-    check_eq(back::<YesNo>(1), 1)?;
+    for code in [0, 1] {
+        check_eq(back::<Words>(code), Some(code))?;
+        check_eq(back::<YesNo>(code), Some(code))?;
+    }
     for code in [7, 1000, 1001, 9999, 65535] {
-        check_eq(back::<Words>(code), u16::MAX)?;
-        check_eq(back::<YesNo>(code), u16::MAX)?;
+        check_eq(back::<Words>(code), None)?;
+        check_eq(back::<YesNo>(code), None)?;
     }
-    check_eq(back::<YesNo>(2), u16::MAX)
+    check_eq(back::<Words>(6), Some(6))?;
+    check_eq(back::<YesNo>(2), None)
 }
 
 #[test]
