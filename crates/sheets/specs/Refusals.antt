@@ -1,10 +1,11 @@
 -- Which calls on a sheet are refused, by the first cause that holds, and the number of each refusal.
-use mathlib.Core.Bool.{Bool, cond, not}
+use mathlib.Core.Bool.{Bool, not}
 use Prim.Native.Nat.{ℕ, _+_, _*_}
 use lib.Dec.{ltb, leb, eqb}
 use Rattle.std.specs.Options.{isSome}
 use Rattle.std.specs.declared.option.Option.{Option}
-use Rattle.std.specs.declared.option.Option.the-variants.{None, Some}
+use Rattle.std.specs.declared.option.Option.the-variants.{None}
+use Rattle.grades.specs.Refusals.{needing}
 use Rattle.sheets.specs.declared.refusal.SizeRefusal.{SizeRefusal}
 use Rattle.sheets.specs.declared.refusal.SizeRefusal.the-variants as size
 use Rattle.sheets.specs.declared.refusal.DrawRefusal.{DrawRefusal}
@@ -25,10 +26,6 @@ abbrev pub mark-number : MarkRefusal → ℕ
 mark-number mark.Memory = 5
 mark-number mark.State = 2
 mark-number mark.Mark = 3
-
--- where the test fails, that refusal; else what comes next
-abbrev pub needing : {R : Type 0} → Bool → R → Option R → Option R
-needing test refusal next = cond test next (Some refusal)
 
 -- a sheet of n states and m marks in memory of so many cells
 abbrev pub size-refusal : (n m cells : ℕ) → Option SizeRefusal

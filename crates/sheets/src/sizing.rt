@@ -44,7 +44,8 @@ impl Size {
     pub fn cells(self) -> usize
         ensures { λ r. ⌜ r ≡ self .states * (self .states + self .marks) ⌝ }
     {
-        self.states * (self.states + self.marks)
+        let n = self.states;
+        n * (n + self.marks)
     }
 
     pub fn states(self) -> usize
