@@ -1,12 +1,13 @@
 -- The sheet file: a header of ten bytes, and then a record of five bytes for each step and each mark above the floor.
 use mathlib.Core.Path.{_≡_}
+use mathlib.Core.Logic.{_⊎_}
 use mathlib.Core.Bool.{Bool, cond}
 use mathlib.Core.List.{List, [], _∷_, _++_, map}
-use Prim.Native.Nat.{ℕ, zero, suc, _+_, _*_, _/_, _%_, _≤_}
+use Prim.Native.Nat.{ℕ, zero, suc, _+_, _*_, _/_, _%_, _≤_, _<_}
 use lib.Dec.{ltb}
 use lib.ListN.{length, drop}
 use Rattle.std.specs.Iters.{counting}
-use Rattle.std.specs.shelf.Lists.{kept-by}
+use Rattle.std.specs.shelf.Lists.{All, Has, kept-by}
 use Rattle.std.specs.declared.option.Option.{Option}
 use Rattle.std.specs.declared.option.Option.the-variants.{None, Some}
 use Rattle.files.specs.declared.cell.Kind.{Kind}
@@ -90,8 +91,28 @@ file-of number code T = header number (T .states) (T .marks) (length (table-reco
 abbrev pub file-length : (records : ℕ) → ℕ
 file-length records = 10 + 5 * records
 
+-- ---- what the records are
+
+-- by kind, then by first number, then by second number
+abbrev pub Before : Cell → Cell → Type 0
+Before a b =
+    (kind-byte (a .kind) < kind-byte (b .kind))
+    ⊎ ((a .kind ≡ b .kind) × ((a .first < b .first) ⊎ ((a .first ≡ b .first) × (a .second < b .second))))
+
+-- each record comes before all that follow it
+abbrev pub Ascend : List Record → Type 0
+Ascend [] = Unit {0}
+Ascend (r ∷ rs) = All (λ s. Before (r .cell) (s .cell)) rs × Ascend rs
+
+-- the records ascend, and there is one for exactly the cells above the floor, each with the code of its level
+pub record Records (code : ℕ → ℕ) (T : Tables) (rs : List Record) : Type 0 where
+  pub ascend : Ascend rs
+  pub above : All (λ r. (0 < level-at T (r .cell)) × (r .code ≡ code (level-at T (r .cell)))) rs
+  pub every : (c : Cell) → 0 < level-at T c → Has rs (record-of code T c)
+
 -- the memory begins with the file, whose length is answered, and goes on as it was
 pub record Saved (number : ℕ) (code : ℕ → ℕ) (T : Tables) (before after : List ℕ) (answer : ℕ) : Type 0 where
+  pub records : Records code T (table-records code T)
   pub few : length (table-records code T) ≤ 5120
   pub sized : answer ≡ file-length (length (table-records code T))
   pub whole : answer ≡ length (file-of number code T)

@@ -6,7 +6,7 @@ use lib.ListN.{length}
 use lib.Seq.{sets}
 use Rattle.files.specs.declared.cell.Record.{Record}
 use Rattle.files.specs.declared.saving.Plan.{Plan}
-use Rattle.files.specs.Format.{table-records, bytes-of, file-of, file-length}
+use Rattle.files.specs.Format.{Records, table-records, bytes-of, file-of, file-length}
 use Rattle.sheets.specs.Tables.{Tables}
 
 -- the sizes and the records of the file of these tables
@@ -14,6 +14,7 @@ pub record Planned (number : ℕ) (code : ℕ → ℕ) (T : Tables) (plan : Plan
   pub states : plan .size .states ≡ T .states
   pub marks : plan .size .marks ≡ T .marks
   pub count : plan .count ≡ length (table-records code T)
+  pub records : Records code T (table-records code T)
   pub few : length (table-records code T) ≤ 5120
   pub whole : length (file-of number code T) ≡ file-length (plan .count)
 

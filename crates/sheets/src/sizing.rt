@@ -4,6 +4,7 @@ ghost use denote.Ref.{now};
 ghost use Rattle.std.specs.Results.{Cases, errPart};
 ghost use Rattle.sheets.specs.Refusals.{size-refusal};
 ghost use Rattle.sheets.specs.Sheets.{Whole};
+ghost use Rattle.sheets.specs.Tables.{Bounded};
 use crate::Size;
 use crate::SizeRefusal;
 use crate::Structure;
@@ -34,6 +35,7 @@ impl Size {
         ensures states { λ r. ⌜ r .states ≡ K·Structure .tables (now (structure .entry)) .states ⌝ }
         ensures marks { λ r. ⌜ r .marks ≡ K·Structure .tables (now (structure .entry)) .marks ⌝ }
         ensures same { λ _. ⌜ now (structure .exit) ≡ now (structure .entry) ⌝ }
+        ensures bounded { λ _. ⌜ Bounded (Grade·Scale .height) (K·Structure .tables (now (structure .entry))) ⌝ }
     {
         let states = structure.states();
         let marks = structure.marks();

@@ -4,6 +4,7 @@ use native.Mathlib.Nat.{mul-le-mul}
 use native.Mathlib.Omega.{arith}
 use lib.ListN.{length}
 use Rattle.files.specs.Format.{table-records}
+use Rattle.files.proofs.Laws.{records-are}
 use Rattle.files.proofs.Records.{length-file, same-records}
 use Rattle.files.proofs.saving.plan_of.Needs as need
 
@@ -21,6 +22,7 @@ returns g c =
         states = is .states;
         marks = is .marks;
         count = count;
+        records = records-are (g .Grade·Scale .code) _ T (is .bounded);
         few = omega (arith, c .count-records-count .ensures .most);
         whole = omega (arith, length-file (g .Grade·Scale .number) (g .Grade·Scale .code) T);
       };
