@@ -1,3 +1,5 @@
+#![tactic(auto)]
+
 mod cut;
 mod grade_map;
 mod maps;

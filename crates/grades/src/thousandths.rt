@@ -1,7 +1,7 @@
 ghost use Rattle.std.specs.Prelude.{◌≡◌, Some, decimal, nat_le};
 ghost use Rattle.grades.specs.Levels.{thousandths_level, thousandths_opposite, level_of_code};
 ghost use Rattle.std.proofs.Common.{arith, rules};
-ghost use Rattle.grades.specs.Codes.{is_level};
+ghost use Rattle.grades.specs.Codes.{thousandths_lead_back, thousandths_encode};
 
 use crate::Scale;
 use std::fmt;
@@ -67,7 +67,9 @@ impl Scale for Thousandths {
 
     ghost decodes = { Prim.search rules };
 
-    ghost encodes = { λ c p e. let is = is_level 1000 c p e in (record { 0 = p }, (omega arith, is.0)) };
+    ghost leads_back = { thousandths_lead_back };
+
+    ghost encodes = { thousandths_encode };
 
     fn number() -> u8 {
         1

@@ -2,8 +2,7 @@ ghost use Rattle.grades.specs.declared.words.Words.TheVariants.{Never, Sure};
 ghost use Rattle.std.specs.Prelude.{◌≡◌, Some, nat_le};
 ghost use Rattle.grades.specs.Levels.{word_level, word_opposite, level_of_code};
 ghost use Rattle.grades.specs.Names.{word_name};
-ghost use Rattle.grades.specs.Codes.{is_level};
-ghost use Rattle.grades.specs.WordsScaleLemmas.{word_at};
+ghost use Rattle.grades.specs.Codes.{words_lead_back, words_encode};
 ghost use Rattle.std.proofs.Common.{rules};
 
 use crate::Scale;
@@ -98,7 +97,9 @@ impl Scale for Words {
 
     ghost decodes = { Prim.search rules };
 
-    ghost encodes = { λ c p e. let is = is_level 6 c p e in let word = word_at p is.1 in (word.0, (word.1, is.0)) };
+    ghost leads_back = { words_lead_back };
+
+    ghost encodes = { words_encode };
 
     fn number() -> u8 {
         2

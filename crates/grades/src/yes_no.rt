@@ -2,8 +2,7 @@ ghost use Rattle.grades.specs.declared.yes_no.YesNo.TheVariants.{No, Yes};
 ghost use Rattle.std.specs.Prelude.{◌≡◌, Some, nat_le};
 ghost use Rattle.grades.specs.Names.{yes_no_name};
 ghost use Rattle.grades.specs.Levels.{yes_no_level, yes_no_opposite, level_of_code};
-ghost use Rattle.grades.specs.Codes.{is_level};
-ghost use Rattle.grades.specs.YesNoScaleLemmas.{answer_at};
+ghost use Rattle.grades.specs.Codes.{answers_lead_back, answers_encode};
 ghost use Rattle.std.proofs.Common.{rules};
 
 use crate::Scale;
@@ -74,7 +73,9 @@ impl Scale for YesNo {
 
     ghost decodes = { Prim.search rules };
 
-    ghost encodes = { λ c p e. let is = is_level 1 c p e in let answer = answer_at p is.1 in (answer.0, (answer.1, is.0)) };
+    ghost leads_back = { answers_lead_back };
+
+    ghost encodes = { answers_encode };
 
     fn number() -> u8 {
         3
