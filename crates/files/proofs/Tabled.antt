@@ -8,7 +8,7 @@ use Rattle.files.specs.Format.{kind_byte, level_by, level_at, Graded}
 use Rattle.files.specs.Recorded.{level_found, looked_up}
 use Rattle.files.proofs.Sound.{limit}
 use Rattle.sheets.specs.Sheets.{inside}
-use Rattle.sheets.specs.Tables.{Tables, Limits, Bounded}
+use Rattle.sheets.specs.Tables.{Limits, Bounded}
 
 -- ---- inside the numbers
 

@@ -98,7 +98,7 @@ fn put_records<K: Structure>(structure: &mut K, size: Size, out: &mut [u8])
 /// The size of a structure, and how many records its file has.
 fn plan_of<K: Structure>(structure: &mut K) -> Plan
     ensures planned { Planned K.Grade.Scale.number K.Grade.Scale.code (K.Structure.tables structure.old) result }
-    ensures storable { Storable K.Grade.Scale.number K.Grade.Scale.height K.Grade.Scale.code K.Grade.Scale.decode (K.Structure.tables structure.old) result.count }
+    ensures storable { Storable K.Grade.Scale.number K.Grade.Scale.height K.Grade.Scale.code K.Grade.Scale.decode (K.Structure.tables structure.old) (length (table_records K.Grade.Scale.code (K.Structure.tables structure.old))) }
     ensures same { structure.new ≡ structure.old }
 {
     let size = Size::of(structure);

@@ -7,14 +7,14 @@ positive : (n m i : ℕ) → i < n * m → 0 < m
 positive n zero i h = absurd (omega (arith, mul-zero n))
 positive n (suc m) i h = omega arith
 
-pub overflow-cast-result : goal.overflow-cast-result
-overflow-cast-result c =
+pub overflow_cast-result : goal.overflow_cast-result
+overflow_cast-result c =
     let n = c.states-n.result in
     let below : c.args.index / n < n = div_below c.args.index n n (omega arith) c.if-index-n.true in
     Fits-below {n = 64} tt (omega arith)
 
-pub overflow-cast-result-2 : goal.overflow-cast-result-2
-overflow-cast-result-2 c =
+pub overflow_cast-result-2 : goal.overflow_cast-result-2
+overflow_cast-result-2 c =
     let n = c.states-n.result in
     let m = c.marks-m.result in
     let i = c.args.index - n * n in

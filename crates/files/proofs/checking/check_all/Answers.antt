@@ -4,20 +4,20 @@ use Rattle.files.specs.Checks.{file_fault}
 use Rattle.files.proofs.Opening.{verdict}
 use Rattle.files.proofs.checking.check_all.Goals as goal
 
-pub returns-in-err-check-header : goal.returns-in-err-check-header
-returns-in-err-check-header g c =
+pub returns-in_err-check_header : goal.returns-in_err-check_header
+returns-in_err-check_header g c =
     let s = g.S.Scale in
-    let first : result_err c.from-residual.result ≡ file_fault g.S.Scale.number g.S.Scale.decode c.args.bytes.now = search rules in
-    verdict s.level s.number s.height s.code s.decode g.met.S.Scale.within g.met.S.Scale.encodes c.args.bytes.now (λ k. (c.type-inv.bytes k).fits) _ first
+    let first : result_err c.from_residual.result ≡ file_fault g.S.Scale.number g.S.Scale.decode c.args.bytes.now = search rules in
+    verdict s.level s.number s.height s.code s.decode g.met.S.Scale.within g.met.S.Scale.encodes c.args.bytes.now (λ k. (c.type_inv.bytes k).fits) _ first
 
-pub returns-in-err-check-records : goal.returns-in-err-check-records
-returns-in-err-check-records g c =
+pub returns-in_err-check_records : goal.returns-in_err-check_records
+returns-in_err-check_records g c =
     let s = g.S.Scale in
-    let first : result_err c.from-residual-in-err-check-records.result ≡ file_fault g.S.Scale.number g.S.Scale.decode c.args.bytes.now = search rules in
-    verdict s.level s.number s.height s.code s.decode g.met.S.Scale.within g.met.S.Scale.encodes c.args.bytes.now (λ k. (c.type-inv.bytes k).fits) _ first
+    let first : result_err c.from_residual-in_err-check_records.result ≡ file_fault g.S.Scale.number g.S.Scale.decode c.args.bytes.now = search rules in
+    verdict s.level s.number s.height s.code s.decode g.met.S.Scale.within g.met.S.Scale.encodes c.args.bytes.now (λ k. (c.type_inv.bytes k).fits) _ first
 
 pub returns : goal.returns
 returns g c =
     let s = g.S.Scale in
     let first : None ≡ file_fault g.S.Scale.number g.S.Scale.decode c.args.bytes.now = search rules in
-    verdict s.level s.number s.height s.code s.decode g.met.S.Scale.within g.met.S.Scale.encodes c.args.bytes.now (λ k. (c.type-inv.bytes k).fits) _ first
+    verdict s.level s.number s.height s.code s.decode g.met.S.Scale.within g.met.S.Scale.encodes c.args.bytes.now (λ k. (c.type_inv.bytes k).fits) _ first

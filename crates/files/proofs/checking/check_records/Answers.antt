@@ -6,26 +6,26 @@ use Rattle.files.specs.Checks.{record_fault, records_fault}
 use Rattle.files.proofs.Checked.{entries_all, stops, goes_on}
 use Rattle.files.proofs.checking.check_records.Goals as goal
 
-pub returns-in-err-check : goal.returns-in-err-check
-returns-in-err-check g c =
+pub returns-in_err-check : goal.returns-in_err-check
+returns-in_err-check g c =
     let bytes = c.args.bytes.now in
-    let p = err_from_is_err_and c.from-residual.result c.from-residual.ensures.1 in
+    let p = err_from_is_err_and c.from_residual.result c.from_residual.ensures.1 in
     let before = c.loop-index.before in
-    let e = c.entry-at-entry.result in
+    let e = c.entry_at-entry.result in
     let inside : c.loop-index.index < count bytes = omega arith in
-    let at = c.in-err-check.ensures ∙ ap₂ (λ (n m : ℕ). record_fault g.S.Scale.decode n m before e) c.states-in-n.ensures c.marks-in-m.ensures in
+    let at = c.in_err-check.ensures ∙ ap₂ (λ (n m : ℕ). record_fault g.S.Scale.decode n m before e) c.states_in-n.ensures c.marks_in-m.ensures in
     ap result_err p.1 ∙ ap Some p.2
-    ∙ stops g.S.Scale.decode (states bytes) (marks bytes) bytes before c.loop-index.index (count bytes) inside e c.entry-at-entry.ensures c.in-err-check.field-0.0 at
+    ∙ stops g.S.Scale.decode (states bytes) (marks bytes) bytes before c.loop-index.index (count bytes) inside e c.entry_at-entry.ensures c.in_err-check.field-0.0 at
     ∙ sym c.loop-index.invariant
 
 pub loop-index-preserved : goal.loop-index-preserved
 loop-index-preserved g c =
     let bytes = c.args.bytes.now in
     let before = c.loop-index.before in
-    let e = c.entry-at-entry.result in
+    let e = c.entry_at-entry.result in
     let inside : c.loop-index.index < count bytes = omega arith in
-    let at = c.in-ok-check.ensures ∙ ap₂ (λ (n m : ℕ). record_fault g.S.Scale.decode n m before e) c.states-in-n.ensures c.marks-in-m.ensures in
-    c.loop-index.invariant ∙ goes_on g.S.Scale.decode (states bytes) (marks bytes) bytes before c.loop-index.index (count bytes) inside e c.entry-at-entry.ensures at
+    let at = c.in_ok-check.ensures ∙ ap₂ (λ (n m : ℕ). record_fault g.S.Scale.decode n m before e) c.states_in-n.ensures c.marks_in-m.ensures in
+    c.loop-index.invariant ∙ goes_on g.S.Scale.decode (states bytes) (marks bytes) bytes before c.loop-index.index (count bytes) inside e c.entry_at-entry.ensures at
 
 pub returns : goal.returns
 returns g c =
