@@ -1,4 +1,6 @@
 // The bearing of a last mill, from the drawing of its wear sheet to the sheet's file and back.
+#![tactic(auto)]
+
 ghost use Rattle.std.specs.Prelude.{◌≡◌, ◌<◌, true, length, is_ok, MatchOption};
 ghost use Rattle.sheets.specs.Tables.{all_floor};
 ghost use Rattle.grades.specs.Levels.{own_code};

@@ -1,4 +1,6 @@
 // Tests of the edges: sizes, memory, codes, maps, cuts and files at and beyond their limits.
+#![tactic(auto)]
+
 #[cfg(test)]
 mod opening;
 #[cfg(test)]

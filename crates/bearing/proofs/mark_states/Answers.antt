@@ -4,7 +4,7 @@ use Rattle.bearing.proofs.mark_states.Goals as goal
 
 pub returns : goal.returns
 returns c = record {
-  kept = kept_then (kept_then (kept_then (kept_then (kept_then c.in-ok-mark.ensures.kept c.in-ok-mark-2.ensures.kept) c.in-ok-mark-3.ensures.kept) c.in-ok-mark-4.ensures.kept) c.in-ok-mark-5.ensures.kept) c.in-ok-mark-6.ensures.kept;
+  kept = kept_then (kept_then (kept_then (kept_then (kept_then c.in_ok-mark.ensures.kept c.in_ok-mark-2.ensures.kept) c.in_ok-mark-3.ensures.kept) c.in_ok-mark-4.ensures.kept) c.in_ok-mark-5.ensures.kept) c.in_ok-mark-6.ensures.kept;
   accepted = λ whole states marks. refl;
-  tables = λ ok. marked_then _ _ _ 2 1 1000 (marked_then _ _ _ 1 1 300 (marked_then _ _ _ 0 1 0 (marked_then _ _ _ 2 0 0 (marked_then _ _ _ 1 0 500 c.in-ok-mark.ensures.marked c.in-ok-mark-2.ensures.marked) c.in-ok-mark-3.ensures.marked) c.in-ok-mark-4.ensures.marked) c.in-ok-mark-5.ensures.marked) c.in-ok-mark-6.ensures.marked;
+  tables = λ ok. marked_then _ _ _ 2 1 1000 (marked_then _ _ _ 1 1 300 (marked_then _ _ _ 0 1 0 (marked_then _ _ _ 2 0 0 (marked_then _ _ _ 1 0 500 c.in_ok-mark.ensures.marked c.in_ok-mark-2.ensures.marked) c.in_ok-mark-3.ensures.marked) c.in_ok-mark-4.ensures.marked) c.in_ok-mark-5.ensures.marked) c.in_ok-mark-6.ensures.marked;
 }
