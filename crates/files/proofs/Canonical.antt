@@ -1,7 +1,7 @@
 -- A file without a fault is the file of the tables that it records.
 use Rattle.std.proofs.Common.{◌≡◌, ℕ, zero, suc, ◌+◌, ◌*◌, ◌/◌, ◌%◌, ◌<◌, ◌≤◌, true, cond, eqb, ◌⊎◌, List, [], ◌∷◌, map, length, get_or, drop, Some, None, Option, sym, refl, ap, ◌∙◌, inl, inr, arith}
 use lib.ListN.{length-map}
-use Rattle.std.specs.List.{ContainsAt as Has, AllByRecursion as All}
+use Rattle.std.specs.List.{ContainsAt, AllByRecursion}
 use Rattle.std.proofs.lemmas.List.{drop_more, drop_all}
 use Rattle.std.proofs.ByRecursion.{All-map, all-has}
 use Rattle.files.specs.declared.cell.Kind.{Kind}
@@ -14,7 +14,7 @@ use Rattle.files.specs.Format.{cell, kind_byte, level_at, record_of, bytes_of, t
 use Rattle.files.specs.Recorded.{level_found, code_of, file_tables}
 use Rattle.files.proofs.Ascending.{same_records, has_map_back}
 use Rattle.files.proofs.Keys.{is_under}
-use Rattle.files.proofs.Laws.{records_are, Has-map}
+use Rattle.files.proofs.Laws.{records_are, ContainsAt-map}
 use Rattle.files.proofs.Lookups.{all_after, code_found, code_had}
 use Rattle.files.proofs.Sound.{Proper, Sound, Headed, limit}
 use Rattle.files.proofs.Tabled.{inside_in, found_above, level_looked, looked_bounded, looked_above, looked_graded}
@@ -35,11 +35,11 @@ pub kind_back : (kind : Kind) → kind_of (kind_byte kind) ≡ kind
 kind_back Step = refl
 kind_back Mark = refl
 
-all_proper : (decode : ℕ → Option ℕ) (n m : ℕ) (before : Option Entry) (es : List Entry) → Sound decode n m before es → All (Proper decode n m) es
+all_proper : (decode : ℕ → Option ℕ) (n m : ℕ) (before : Option Entry) (es : List Entry) → Sound decode n m before es → AllByRecursion (Proper decode n m) es
 all_proper decode n m before [] s = tt
 all_proper decode n m before (e ∷ es) s = (s.0, all_proper decode n m (Some e) es s.2)
 
-all_both : {X : Type 0} (P Q R : X → Type 0) → ((x : X) → P x → Q x → R x) → (xs : List X) → All P xs → All Q xs → All R xs
+all_both : {X : Type 0} (P Q R : X → Type 0) → ((x : X) → P x → Q x → R x) → (xs : List X) → AllByRecursion P xs → AllByRecursion Q xs → AllByRecursion R xs
 all_both P Q R both [] p q = tt
 all_both P Q R both (x ∷ xs) p q = (both x p.0 q.0, all_both P Q R both xs p.1 q.1)
 
@@ -79,7 +79,7 @@ module _ (decode : ℕ → Option ℕ) (n m : ℕ) where
   )
 
   -- the bytes of records are those that they are read from
-  bytes_typed : (bs : List ℕ) → ((k : ℕ) → get_or bs k 0 < 256) → (i many : ℕ) → 10 + 5 * (i + many) ≡ length bs → All (Proper decode n m) (entries_from bs i many) → drop (10 + 5 * i) bs ≡ bytes_of (map typed (entries_from bs i many))
+  bytes_typed : (bs : List ℕ) → ((k : ℕ) → get_or bs k 0 < 256) → (i many : ℕ) → 10 + 5 * (i + many) ≡ length bs → AllByRecursion (Proper decode n m) (entries_from bs i many) → drop (10 + 5 * i) bs ≡ bytes_of (map typed (entries_from bs i many))
   bytes_typed bs fits i zero h all = drop_all (10 + 5 * i) bs (omega arith)
   bytes_typed bs fits i (suc many) h all =
       let rest = bytes_typed bs fits (i + 1) many (omega arith) all.1 in
@@ -107,7 +107,7 @@ module _ (number height : ℕ) (code : ℕ → ℕ) (decode : ℕ → Option ℕ
   file_records = records_are code height (file_tables decode height bytes) file_bounded
 
   -- a record's cell is at its grade's level
-  record_level : (e : Entry) → Has (entries bytes) e → (p : Proper decode (states bytes) (marks bytes) e) → level_at (file_tables decode height bytes) (cell_of e) ≡ p.level
+  record_level : (e : Entry) → ContainsAt (entries bytes) e → (p : Proper decode (states bytes) (marks bytes) e) → level_at (file_tables decode height bytes) (cell_of e) ≡ p.level
   record_level e has p =
       level_looked decode height (states bytes) (marks bytes) (code_of (entries bytes)) (kind_of e.kind) e.first e.second
       ∙ inside_in e.first (states bytes) e.second (limit (states bytes) (marks bytes) (kind_of e.kind)) _ p.first
@@ -116,7 +116,7 @@ module _ (number height : ℕ) (code : ℕ → ℕ) (decode : ℕ → Option ℕ
       ∙ ap (level_found decode) (code_had decode (states bytes) (marks bytes) None (entries bytes) e sound has)
       ∙ rw p.level_is
 
-  there : (r : Record) → Has (map typed (entries bytes)) r → Has (table_records code (file_tables decode height bytes)) r
+  there : (r : Record) → ContainsAt (map typed (entries bytes)) r → ContainsAt (table_records code (file_tables decode height bytes)) r
   there r has =
       let back = has_map_back typed (entries bytes) r has in
       let e = back.0 in
@@ -127,7 +127,7 @@ module _ (number height : ℕ) (code : ℕ → ℕ) (decode : ℕ → Option ℕ
       let is : record_of code (file_tables decode height bytes) (cell_of e) ≡ r = ap (λ (x : ℕ). record { cell = cell_of e; code = x }) same ∙ back.2 in
       (found.0, found.1, λ d. found.2 d ∙ is)
 
-  back : (r : Record) → Has (table_records code (file_tables decode height bytes)) r → Has (map typed (entries bytes)) r
+  back : (r : Record) → ContainsAt (table_records code (file_tables decode height bytes)) r → ContainsAt (map typed (entries bytes)) r
   back r has =
       let c = r.cell in
       let above = all-has (λ (s : Record). (0 < level_at (file_tables decode height bytes) s.cell) × (s.code ≡ code (level_at (file_tables decode height bytes) s.cell))) _ r file_records.above has in
@@ -140,7 +140,7 @@ module _ (number height : ℕ) (code : ℕ → ℕ) (decode : ℕ → Option ℕ
       let second : e.second ≡ c.second = ap (λ (k : Key). k.2) entry.2 in
       let same : e.code ≡ r.code = entry.3 ∙ sym (encodes found.0 _ found.2) ∙ ap code (sym looked.2) ∙ sym above.1 in
       let is : typed e ≡ r = λ i. record { cell = record { kind = kind i; first = first i; second = second i }; code = same i } in
-      let had = Has-map typed (entries bytes) e entry.1 in
+      let had = ContainsAt-map typed (entries bytes) e entry.1 in
       (had.0, had.1, λ d. had.2 d ∙ is)
 
   pub records_recorded : map typed (entries bytes) ≡ table_records code (file_tables decode height bytes)

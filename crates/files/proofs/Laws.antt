@@ -1,7 +1,7 @@
 -- The records of tables ascend, and there is one for exactly the cells above the floor.
 use Rattle.std.proofs.Common.{◌≡◌, ℕ, zero, suc, ◌+◌, ◌<◌, ◌≤◌, Bool, true, false, cond, ltb, List, [], ◌∷◌, ◌++◌, map, length, get_or, filter, sym, refl, ap, ◌∙◌, inl, inr, arith, ltb-false, ltb-true, lt-ltb}
 use lib.ListN.{length-map}
-use Rattle.std.specs.List.{range_with_len, ContainsAt as Has, AllByRecursion as All}
+use Rattle.std.specs.List.{range_with_len, ContainsAt, AllByRecursion}
 use Rattle.std.proofs.lemmas.List.{get_or-map}
 use Rattle.std.proofs.lemmas.List.FromFn.{get_or-map-range_with_len, length-map-range_with_len}
 use Rattle.std.proofs.ByRecursion.{All-append, All-weaker, All-map, all_kept_by, kept_by_passes, has_append_left, has_append_right}
@@ -15,17 +15,17 @@ use Rattle.sheets.specs.Tables.{Tables, Bounded}
 
 abbrev Up : List Cell → Type 0
 Up [] = Unit {0}
-Up (c ∷ cs) = All (Before c) cs × Up cs
+Up (c ∷ cs) = AllByRecursion (Before c) cs × Up cs
 
-Ascend-append : (xs ys : List Cell) → Up xs → Up ys → All (λ x. All (Before x) ys) xs → Up (xs ++ ys)
-Ascend-append [] ys ux uy across = uy
-Ascend-append (x ∷ xs) ys ux uy across = (All-append (Before x) xs ys ux.0 across.0, Ascend-append xs ys ux.1 uy across.1)
+Up-append : (xs ys : List Cell) → Up xs → Up ys → AllByRecursion (λ x. AllByRecursion (Before x) ys) xs → Up (xs ++ ys)
+Up-append [] ys ux uy across = uy
+Up-append (x ∷ xs) ys ux uy across = (All-append (Before x) xs ys ux.0 across.0, Up-append xs ys ux.1 uy across.1)
 
 up_kept : (p : Cell → Bool) (xs : List Cell) → Up xs → Up (filter p xs)
 up_kept p [] u = tt
 up_kept p (x ∷ xs) u = by (p x) (all_kept_by p (Before x) xs u.0) (up_kept p xs u.1)
   where
-    by : (b : Bool) → All (Before x) (filter p xs) → Up (filter p xs) → Up (cond b (x ∷ filter p xs) (filter p xs))
+    by : (b : Bool) → AllByRecursion (Before x) (filter p xs) → Up (filter p xs) → Up (cond b (x ∷ filter p xs) (filter p xs))
     by true a v = (a, v)
     by false a v = v
 
@@ -39,7 +39,7 @@ up_records code T (x ∷ xs) u = (All-map (λ s. Before x s.cell) (record_of cod
 abbrev OfState : Kind → (state low : ℕ) → Cell → Type 0
 OfState kind state low c = (c.kind ≡ kind) × (c.first ≡ state) × (low ≤ c.second)
 
-state_all : (kind : Kind) (state a many : ℕ) → All (OfState kind state a) (map (cell kind state) (range_with_len a many))
+state_all : (kind : Kind) (state a many : ℕ) → AllByRecursion (OfState kind state a) (map (cell kind state) (range_with_len a many))
 state_all kind state a zero = tt
 state_all kind state a (suc many) =
     ((refl, refl, omega arith), All-weaker (OfState kind state (a + 1)) (OfState kind state a) (λ c o. (o.0, o.1, omega (arith, o.2))) (map (cell kind state) (range_with_len (a + 1) many)) (state_all kind state (a + 1) many))
@@ -55,7 +55,7 @@ state_up kind state a (suc many) = (
 abbrev FromState : Kind → (low : ℕ) → Cell → Type 0
 FromState kind low c = (c.kind ≡ kind) × (low ≤ c.first)
 
-states_all : (kind : Kind) (state many states : ℕ) → All (FromState kind state) (of_states kind state many states)
+states_all : (kind : Kind) (state many states : ℕ) → AllByRecursion (FromState kind state) (of_states kind state many states)
 states_all kind state many zero = tt
 states_all kind state many (suc states) =
     All-append (FromState kind state) (of_state kind state many) (of_states kind (state + 1) many states)
@@ -65,45 +65,45 @@ states_all kind state many (suc states) =
 states_up : (kind : Kind) (state many states : ℕ) → Up (of_states kind state many states)
 states_up kind state many zero = tt
 states_up kind state many (suc states) =
-    Ascend-append (of_state kind state many) (of_states kind (state + 1) many states) (state_up kind state 0 many) (states_up kind (state + 1) many states)
-    (All-weaker (OfState kind state 0) (λ x. All (Before x) (of_states kind (state + 1) many states)) across (of_state kind state many) (state_all kind state 0 many))
+    Up-append (of_state kind state many) (of_states kind (state + 1) many states) (state_up kind state 0 many) (states_up kind (state + 1) many states)
+    (All-weaker (OfState kind state 0) (λ x. AllByRecursion (Before x) (of_states kind (state + 1) many states)) across (of_state kind state many) (state_all kind state 0 many))
   where
-    across : (x : Cell) → OfState kind state 0 x → All (Before x) (of_states kind (state + 1) many states)
+    across : (x : Cell) → OfState kind state 0 x → AllByRecursion (Before x) (of_states kind (state + 1) many states)
     across x o =
         All-weaker (FromState kind (state + 1)) (Before x) (λ c f. inr (o.0 ∙ sym f.0, inl (omega (arith, o.1, f.1)))) (of_states kind (state + 1) many states) (states_all kind (state + 1) many states)
 
 cells_up : (n m : ℕ) → Up (cells n m)
 cells_up n m =
-    Ascend-append (of_states Step 0 n n) (of_states Mark 0 m n) (states_up Step 0 n n) (states_up Mark 0 m n)
-    (All-weaker (FromState Step 0) (λ x. All (Before x) (of_states Mark 0 m n)) across (of_states Step 0 n n) (states_all Step 0 n n))
+    Up-append (of_states Step 0 n n) (of_states Mark 0 m n) (states_up Step 0 n n) (states_up Mark 0 m n)
+    (All-weaker (FromState Step 0) (λ x. AllByRecursion (Before x) (of_states Mark 0 m n)) across (of_states Step 0 n n) (states_all Step 0 n n))
   where
-    across : (x : Cell) → FromState Step 0 x → All (Before x) (of_states Mark 0 m n)
+    across : (x : Cell) → FromState Step 0 x → AllByRecursion (Before x) (of_states Mark 0 m n)
     across x o =
         All-weaker (FromState Mark 0) (Before x) (λ c f. inl (omega (arith, ap kind_byte o.0, ap kind_byte f.0))) (of_states Mark 0 m n) (states_all Mark 0 m n)
 
 -- ---- what a list has
 
-has_kept : {X : Type 0} (p : X → Bool) (xs : List X) (x : X) (k : ℕ) → k < length xs → ((d : X) → get_or xs k d ≡ x) → p x ≡ true → Has (filter p xs) x
+has_kept : {X : Type 0} (p : X → Bool) (xs : List X) (x : X) (k : ℕ) → k < length xs → ((d : X) → get_or xs k d ≡ x) → p x ≡ true → ContainsAt (filter p xs) x
 has_kept p [] x k h e px = absurd (omega arith)
 has_kept p (y ∷ ys) x zero h e px = rw (ap p (e y) ∙ px) (0, omega arith, λ d. e d)
 has_kept p (y ∷ ys) x (suc k) h e px = by (p y) (has_kept p ys x k (omega arith) (λ d. e d) px)
   where
-    by : (b : Bool) → Has (filter p ys) x → Has (cond b (y ∷ filter p ys) (filter p ys)) x
+    by : (b : Bool) → ContainsAt (filter p ys) x → ContainsAt (cond b (y ∷ filter p ys) (filter p ys)) x
     by true found = (suc found.0, omega (arith, found.1), λ d. found.2 d)
     by false found = found
 
-pub Has-map : {X Y : Type 0} (f : X → Y) (xs : List X) (x : X) → Has xs x → Has (map f xs) (f x)
-Has-map f xs x found = (found.0, rw length-map found.1, λ d. get_or-map f xs found.0 x d found.1 ∙ ap f (found.2 x))
+pub ContainsAt-map : {X Y : Type 0} (f : X → Y) (xs : List X) (x : X) → ContainsAt xs x → ContainsAt (map f xs) (f x)
+ContainsAt-map f xs x found = (found.0, rw length-map found.1, λ d. get_or-map f xs found.0 x d found.1 ∙ ap f (found.2 x))
 
-has_state : (kind : Kind) (state second many : ℕ) → second < many → Has (of_state kind state many) (cell kind state second)
+has_state : (kind : Kind) (state second many : ℕ) → second < many → ContainsAt (of_state kind state many) (cell kind state second)
 has_state kind state second many h =
     (second, rw (length-map-range_with_len (cell kind state) 0 many) h, λ d. get_or-map-range_with_len (cell kind state) 0 many second second d h (omega arith))
 
-has_states : (kind : Kind) (state many states first second : ℕ) → state ≤ first → first < state + states → second < many → Has (of_states kind state many states) (cell kind first second)
+has_states : (kind : Kind) (state many states first second : ℕ) → state ≤ first → first < state + states → second < many → ContainsAt (of_states kind state many states) (cell kind first second)
 has_states kind state many zero first second low high h = absurd (omega arith)
 has_states kind state many (suc states) first second low high h = by (ltb state first) refl (λ l. has_states kind (state + 1) many states first second (omega arith) (omega arith) h)
   where
-    by : (b : Bool) → ltb state first ≡ b → (state < first → Has (of_states kind (state + 1) many states) (cell kind first second)) → Has (of_state kind state many ++ of_states kind (state + 1) many states) (cell kind first second)
+    by : (b : Bool) → ltb state first ≡ b → (state < first → ContainsAt (of_states kind (state + 1) many states) (cell kind first second)) → ContainsAt (of_state kind state many ++ of_states kind (state + 1) many states) (cell kind first second)
     by true e later = has_append_right (of_state kind state many) (of_states kind (state + 1) many states) (cell kind first second) (later (ltb-true state first e))
     by false e later =
         let same : state ≡ first = omega (arith, ltb-false state first e) in
@@ -113,7 +113,7 @@ has_states kind state many (suc states) first second low high h = by (ltb state 
 -- ---- records of tables within the limits
 
 module _ (code : ℕ → ℕ) (h : ℕ) (T : Tables) (bounded : Bounded h T) where
-  pub has_cell : (kind : Kind) (first second : ℕ) → 0 < level_by T kind first second → Has (cells T.states T.marks) (cell kind first second)
+  pub has_cell : (kind : Kind) (first second : ℕ) → 0 < level_by T kind first second → ContainsAt (cells T.states T.marks) (cell kind first second)
   has_cell Step from to above =
       has_append_left (of_states Step 0 T.states T.states) (of_states Mark 0 T.marks T.states) (cell Step from to)
       (has_states Step 0 T.states T.states from to (omega arith) (below (ltb from T.states) refl) (below' (ltb to T.states) refl))
@@ -143,5 +143,5 @@ module _ (code : ℕ → ℕ) (h : ℕ) (T : Tables) (bounded : Bounded h T) whe
     above = All-map (λ r. (0 < level_at T r.cell) × (r.code ≡ code (level_at T r.cell))) (record_of code T) (filter (above_floor T) (cells T.states T.marks))
         (All-weaker (λ c. above_floor T c ≡ true) (λ c. (0 < level_at T c) × (code (level_at T c) ≡ code (level_at T c))) (λ c e. (ltb-true 0 (level_at T c) e, refl)) (filter (above_floor T) (cells T.states T.marks)) (kept_by_passes (above_floor T) (cells T.states T.marks)));
     every = λ c above. let f = has_cell c.kind c.first c.second above in
-        Has-map (record_of code T) (filter (above_floor T) (cells T.states T.marks)) c (has_kept (above_floor T) (cells T.states T.marks) c f.0 f.1 f.2 (lt-ltb 0 (level_at T c) above));
+        ContainsAt-map (record_of code T) (filter (above_floor T) (cells T.states T.marks)) c (has_kept (above_floor T) (cells T.states T.marks) c f.0 f.1 f.2 (lt-ltb 0 (level_at T c) above));
   }

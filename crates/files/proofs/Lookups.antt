@@ -1,6 +1,6 @@
 -- In records that pass their checks, halving finds what is recorded.
 use Rattle.std.proofs.Common.{◌≡◌, ℕ, zero, suc, ◌+◌, ◌<◌, ◌≤◌, Bool, true, false, cond, ◌⊎◌, List, [], ◌∷◌, Some, None, Option, sym, refl, ap, ◌∙◌, subst, inl, inr, arith, le-ltb, lt-ltb}
-use Rattle.std.specs.List.{ContainsAt as Has, AllByRecursion as All}
+use Rattle.std.specs.List.{ContainsAt, AllByRecursion}
 use Rattle.std.proofs.ByRecursion.{All-weaker, all-has}
 use Rattle.std.proofs.lemmas.Bool.{cases_eq, cases_lt, both_ways}
 use Rattle.files.specs.declared.entry.Entry.{Entry}
@@ -13,39 +13,39 @@ use Rattle.files.proofs.Sound.{Sound}
 
 -- ---- what a list has
 
-pub has_cases : {X : Type 0} (x : X) (xs : List X) (y : X) → Has (x ∷ xs) y → (x ≡ y) ⊎ Has xs y
+pub has_cases : {X : Type 0} (x : X) (xs : List X) (y : X) → ContainsAt (x ∷ xs) y → (x ≡ y) ⊎ ContainsAt xs y
 has_cases x xs y (zero, h, at) = inl (at x)
 has_cases x xs y (suc k, h, at) = inr (k, omega arith, λ d. at d)
 
-pub has_first : {X : Type 0} (x : X) (xs : List X) → Has (x ∷ xs) x
+pub has_first : {X : Type 0} (x : X) (xs : List X) → ContainsAt (x ∷ xs) x
 has_first x xs = (0, omega arith, λ d. refl)
 
-pub has_later : {X : Type 0} (x : X) (xs : List X) (y : X) → Has xs y → Has (x ∷ xs) y
+pub has_later : {X : Type 0} (x : X) (xs : List X) (y : X) → ContainsAt xs y → ContainsAt (x ∷ xs) y
 has_later x xs y found = (suc found.0, omega (arith, found.1), λ d. found.2 d)
 
 -- ---- the first record of a key
 
-pub code_found : (es : List Entry) (wanted : Key) (c : ℕ) → code_of es wanted ≡ Some c → (e : Entry) × Has es e × (key e ≡ wanted) × (e.code ≡ c)
+pub code_found : (es : List Entry) (wanted : Key) (c : ℕ) → code_of es wanted ≡ Some c → (e : Entry) × ContainsAt es e × (key e ≡ wanted) × (e.code ≡ c)
 code_found [] wanted c none = let z : ◌≡◌ {A = ℕ} 0 1 = cc in absurd (omega arith)
 code_found (e ∷ es) wanted c is = by (same_key (key e) wanted) refl is (code_found es wanted c)
   where
     by : (b : Bool) → same_key (key e) wanted ≡ b → cond b (Some e.code) (code_of es wanted) ≡ Some c →
-        (code_of es wanted ≡ Some c → (f : Entry) × Has es f × (key f ≡ wanted) × (f.code ≡ c)) → (f : Entry) × Has (e ∷ es) f × (key f ≡ wanted) × (f.code ≡ c)
+        (code_of es wanted ≡ Some c → (f : Entry) × ContainsAt es f × (key f ≡ wanted) × (f.code ≡ c)) → (f : Entry) × ContainsAt (e ∷ es) f × (key f ≡ wanted) × (f.code ≡ c)
     by true same here later = (e, has_first e es, is_same (key e) wanted same, cc)
     by false same here later = let f = later here in (f.0, has_later e es f.0 f.1, f.2, f.3)
 
 module _ (decode : ℕ → Option ℕ) (n m : ℕ) where
   -- each record comes before all that follow it
-  pub all_after : (b : Entry) (es : List Entry) → Sound decode n m (Some b) es → All (λ e. ascends (key b) (key e) ≡ true) es
+  pub all_after : (b : Entry) (es : List Entry) → Sound decode n m (Some b) es → AllByRecursion (λ e. ascends (key b) (key e) ≡ true) es
   all_after b [] s = tt
   all_after b (e ∷ es) s =
       (s.1, All-weaker (λ x. ascends (key e) (key x) ≡ true) (λ x. ascends (key b) (key x) ≡ true) (λ x q. ascends_then (key b) (key e) (key x) s.1 q) es (all_after e es s.2))
 
-  pub code_had : (before : Option Entry) (es : List Entry) (e : Entry) → Sound decode n m before es → Has es e → code_of es (key e) ≡ Some e.code
+  pub code_had : (before : Option Entry) (es : List Entry) (e : Entry) → Sound decode n m before es → ContainsAt es e → code_of es (key e) ≡ Some e.code
   code_had before [] e s has = absurd (omega (arith, has.1))
   code_had before (x ∷ es) e s has = by (has_cases x es e has) (code_had (Some x) es e s.2)
     where
-      by : (x ≡ e) ⊎ Has es e → (Has es e → code_of es (key e) ≡ Some e.code) → code_of (x ∷ es) (key e) ≡ Some e.code
+      by : (x ≡ e) ⊎ ContainsAt es e → (ContainsAt es e → code_of es (key e) ≡ Some e.code) → code_of (x ∷ es) (key e) ≡ Some e.code
       by (inl same) later = rw (same_is (key x) (key e) (ap key same)) (ap (λ (y : Entry). Some y.code) same)
       by (inr has) later =
           let apart = ascends_apart (key x) (key e) (all-has (λ y. ascends (key x) (key y) ≡ true) es e (all_after x es s.2) has) in
@@ -54,7 +54,7 @@ module _ (decode : ℕ → Option ℕ) (n m : ℕ) where
 -- ---- records by their index
 
 module _ (bytes : List ℕ) where
-  all_entries : (P : Entry → Type 0) (i many : ℕ) → All P (entries_from bytes i many) → (j : ℕ) → i ≤ j → j < i + many → P (entry_at bytes j)
+  all_entries : (P : Entry → Type 0) (i many : ℕ) → AllByRecursion P (entries_from bytes i many) → (j : ℕ) → i ≤ j → j < i + many → P (entry_at bytes j)
   all_entries P i zero a j h l = absurd (omega arith)
   all_entries P i (suc many) a j h l = by (cases_eq j i) (all_entries P (i + 1) many a.1 j)
     where

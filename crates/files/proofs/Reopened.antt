@@ -1,7 +1,7 @@
 -- The file of tables has no fault, and records the tables.
 use Rattle.std.proofs.Common.{◌≡◌, ℕ, ◌+◌, ◌*◌, ◌/◌, ◌%◌, ◌<◌, ◌≤◌, true, ◌⊎◌, List, [], ◌∷◌, map, length, get_or, drop, Some, None, Option, sym, refl, ap, ◌∙◌, subst, ap₂, inl, inr, mul-le-mul, arith}
 use lib.ListN.{length-map}
-use Rattle.std.specs.List.{ContainsAt as Has, AllByRecursion as All}
+use Rattle.std.specs.List.{ContainsAt, AllByRecursion}
 use Rattle.std.proofs.lemmas.List.FromFn.{length-map-range_with_len}
 use Rattle.std.proofs.ByRecursion.{all-has, All-weaker}
 use Rattle.std.proofs.lemmas.List.{get_or-drop, drop-drop}
@@ -113,7 +113,7 @@ module _ (height : ℕ) (code : ℕ → ℕ) (decode : ℕ → Option ℕ) (T : 
         above = w.0;
       }
 
-  raws_sound : (before : Option Entry) (i : ℕ) (rs : List Record) → Ascend rs → All Written rs → All (λ r. (j : ℕ) → follows before (raw j r) ≡ true) rs → Sound decode T.states T.marks before (raws i rs)
+  raws_sound : (before : Option Entry) (i : ℕ) (rs : List Record) → Ascend rs → AllByRecursion Written rs → AllByRecursion (λ r. (j : ℕ) → follows before (raw j r) ≡ true) rs → Sound decode T.states T.marks before (raws i rs)
   raws_sound before i [] up all after = tt
   raws_sound before i (r ∷ rs) up all after = (
     raw_proper i r all.0,
@@ -121,7 +121,7 @@ module _ (height : ℕ) (code : ℕ → ℕ) (decode : ℕ → Option ℕ) (T : 
     raws_sound (Some (raw i r)) (i + 1) rs up.1 all.1 (All-weaker (λ s. Before r.cell s.cell) (λ s. (j : ℕ) → ascends (key (raw i r)) (key (raw j s)) ≡ true) (λ s b j. before_ascends r s i j b) rs up.0),
   )
 
-  none_before : (rs : List Record) → All (λ r. (j : ℕ) → follows None (raw j r) ≡ true) rs
+  none_before : (rs : List Record) → AllByRecursion (λ r. (j : ℕ) → follows None (raw j r) ≡ true) rs
   none_before [] = tt
   none_before (r ∷ rs) = ((λ j. refl), none_before rs)
 
@@ -182,7 +182,7 @@ module _ (height : ℕ) (code : ℕ → ℕ) (decode : ℕ → Option ℕ) (T : 
           one_code A B a b e above =
               let has = a.every c above in
               all-has (λ (r : Record). (0 < level_at B r.cell) × (r.code ≡ code (level_at B r.cell))) (table_records code B) (record_of code A c) b.above
-              (subst (λ rs. Has rs (record_of code A c)) e has)
+              (subst (λ rs. ContainsAt rs (record_of code A c)) e has)
 
           laws_R : Records code R (table_records code R)
           laws_R = file_records number height code decode encodes within (file_of number code T) is_headed is_sound

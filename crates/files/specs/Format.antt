@@ -1,6 +1,6 @@
 -- The sheet file: a header of ten bytes, and then a record of five bytes for each step and each mark above the floor.
 use Rattle.std.specs.Prelude.{◌≡◌, ℕ, zero, suc, ◌+◌, ◌*◌, ◌/◌, ◌%◌, ◌<◌, ◌≤◌, Bool, cond, ◌⊎◌, List, [], ◌∷◌, ◌++◌, map, length, drop, Some, None, filter, Option, ◌==◌, nat_lt}
-use Rattle.std.specs.List.{range_with_len, ContainsAt as Has, AllByRecursion as All}
+use Rattle.std.specs.List.{range_with_len, ContainsAt, AllByRecursion}
 use Rattle.files.specs.declared.cell.Kind.{Kind}
 use Rattle.files.specs.declared.cell.Kind.TheVariants.{Step, Mark}
 use Rattle.files.specs.declared.cell.Cell.{Cell}
@@ -100,13 +100,13 @@ Before a b =
 -- each record comes before all that follow it
 abbrev pub Ascend : List Record → Type 0
 Ascend [] = Unit {0}
-Ascend (r ∷ rs) = All (λ s. Before r.cell s.cell) rs × Ascend rs
+Ascend (r ∷ rs) = AllByRecursion (λ s. Before r.cell s.cell) rs × Ascend rs
 
 -- the records ascend, and there is one for exactly the cells above the floor, each with the code of its level
 pub record Records (code : ℕ → ℕ) (T : Tables) (rs : List Record) : Type 0 where
   pub ascend : Ascend rs
-  pub above : All (λ r. (0 < level_at T r.cell) × (r.code ≡ code (level_at T r.cell))) rs
-  pub every : (c : Cell) → 0 < level_at T c → Has rs (record_of code T c)
+  pub above : AllByRecursion (λ r. (0 < level_at T r.cell) × (r.code ≡ code (level_at T r.cell))) rs
+  pub every : (c : Cell) → 0 < level_at T c → ContainsAt rs (record_of code T c)
 
 -- the memory begins with the file, whose length is answered, and goes on as it was
 pub record Saved (number : ℕ) (code : ℕ → ℕ) (T : Tables) (before after : List ℕ) (answer : ℕ) : Type 0 where
