@@ -246,6 +246,29 @@ fn outside<K: Structure>(rt: &impl Abort, structure: &mut K) {
     }
 }
 
+/// The file of the bearing sheet.
+const BEARING: [u8; 55] = [
+    0x57, 0x53, 0x48, 0x01, 0x00, 0x01, 0x03, 0x02, 0x09, 0x00, 0x01, 0x00, 0x00, 0xBC, 0x02, 0x01,
+    0x00, 0x01, 0x84, 0x03, 0x01, 0x01, 0x01, 0x58, 0x02, 0x01, 0x01, 0x02, 0x20, 0x03, 0x01, 0x02,
+    0x02, 0x58, 0x02, 0x02, 0x00, 0x00, 0xE8, 0x03, 0x02, 0x01, 0x00, 0xF4, 0x01, 0x02, 0x01, 0x01,
+    0x2C, 0x01, 0x02, 0x02, 0x01, 0xE8, 0x03,
+];
+
+/// The fault of the bearing file with another byte at a position.
+fn damaged_bearing(position: usize, byte: u8) -> Option<(u8, usize)> {
+    let mut file = BEARING;
+    change(&mut file, &[(position, byte)]);
+    fault::<Thousandths>(&file)
+}
+
+#[test]
+fn the_bearing_file(rt: HostRuntime) {
+    assert_eq!(rt; damaged_bearing(3, 1), None);
+    assert_eq!(rt; damaged_bearing(3, 2), Some((18, 3)));
+    assert_eq!(rt; damaged_bearing(17, 0), Some((22, 15)));
+    assert_eq!(rt; damaged_bearing(53, 0xE9), Some((1, 53)));
+}
+
 #[test]
 fn views_on_each_scale(rt: HostRuntime) -> Result<(), Fail> {
     let in_thousandths = small::<Thousandths>();

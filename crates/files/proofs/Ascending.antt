@@ -24,12 +24,12 @@ before_once a b (inr (k, inr (f, l))) (inr (j, inr (g, m))) = omega arith
 nothing_has : {X : Type 0} (x : X) → ContainsAt {X = X} [] x → ⊥
 nothing_has x has = omega (arith, has.1)
 
-pub same_records : (xs ys : List Record) → Ascend xs → Ascend ys → ((r : Record) → ContainsAt xs r → ContainsAt ys r) → ((r : Record) → ContainsAt ys r → ContainsAt xs r) → xs ≡ ys
-same_records [] [] ux uy there back = refl
-same_records [] (y ∷ ys) ux uy there back = absurd (nothing_has y (back y (has_first y ys)))
-same_records (x ∷ xs) [] ux uy there back = absurd (nothing_has x (there x (has_first x xs)))
-same_records (x ∷ xs) (y ∷ ys) ux uy there back =
-    ap₂ (λ r rs. r ∷ rs) first (same_records xs ys ux.1 uy.1 (λ r has. later r has) (λ r has. earlier r has))
+pub Ascend_same : (xs ys : List Record) → Ascend xs → Ascend ys → ((r : Record) → ContainsAt xs r → ContainsAt ys r) → ((r : Record) → ContainsAt ys r → ContainsAt xs r) → xs ≡ ys
+Ascend_same [] [] ux uy there back = refl
+Ascend_same [] (y ∷ ys) ux uy there back = absurd (nothing_has y (back y (has_first y ys)))
+Ascend_same (x ∷ xs) [] ux uy there back = absurd (nothing_has x (there x (has_first x xs)))
+Ascend_same (x ∷ xs) (y ∷ ys) ux uy there back =
+    ap₂ (λ r rs. r ∷ rs) first (Ascend_same xs ys ux.1 uy.1 (λ r has. later r has) (λ r has. earlier r has))
   where
     after_x : (r : Record) → ContainsAt xs r → Before x.cell r.cell
     after_x r has = all-has (λ s. Before x.cell s.cell) xs r ux.0 has

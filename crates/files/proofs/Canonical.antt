@@ -12,7 +12,7 @@ use Rattle.files.specs.declared.entry.Entry.{Entry}
 use Rattle.files.specs.Entries.{Key, two_bytes, states, marks, count, entry_at, entries_from, entries, key, ascends}
 use Rattle.files.specs.Format.{cell, kind_byte, level_at, record_of, bytes_of, table_records, file_of, Before, Ascend, Records, Graded}
 use Rattle.files.specs.Recorded.{level_found, code_of, file_tables}
-use Rattle.files.proofs.Ascending.{same_records, has_map_back}
+use Rattle.files.proofs.Ascending.{Ascend_same, has_map_back}
 use Rattle.files.proofs.Keys.{is_under}
 use Rattle.files.proofs.Laws.{records_are, ContainsAt-map}
 use Rattle.files.proofs.Lookups.{all_after, code_found, code_had}
@@ -145,7 +145,7 @@ module _ (number height : ℕ) (code : ℕ → ℕ) (decode : ℕ → Option ℕ
 
   pub records_recorded : map typed (entries bytes) ≡ table_records code (file_tables decode height bytes)
   records_recorded =
-      same_records (map typed (entries bytes)) (table_records code (file_tables decode height bytes))
+      Ascend_same (map typed (entries bytes)) (table_records code (file_tables decode height bytes))
       (ascend_typed decode (states bytes) (marks bytes) None (entries bytes) sound) file_records.ascend there back
 
   pub is_file : ((k : ℕ) → get_or bytes k 0 < 256) → bytes ≡ file_of number code (file_tables decode height bytes)

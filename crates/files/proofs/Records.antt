@@ -1,7 +1,7 @@
 -- Records, one cell after another, and their bytes.
 use Rattle.std.proofs.Common.{◌≡◌, ℕ, suc, ◌+◌, ◌-◌, ◌*◌, ◌<◌, ◌≤◌, Bool, true, false, cond, List, [], ◌∷◌, ◌++◌, map, length, drop, is_some, Some, None, filter, Option, sym, refl, ap, ◌∙◌, ap₂, arith, length-append}
 use mathlib.Core.List.{map-append}
-use lib.Seq.{sets, sets-eq}
+use Rattle.std.proofs.lemmas.List.Edits.{sets, sets-eq}
 use Rattle.std.specs.List.{range_with_len}
 use Rattle.std.proofs.lemmas.List.{append-nil}
 use Rattle.std.proofs.lemmas.List.FromFn.{map-range_with_len_more}
@@ -11,7 +11,7 @@ use Rattle.files.specs.declared.cell.Record.{Record}
 use Rattle.files.specs.Format.{cells, above_floor, record_of, recorded, records_of, record_bytes, bytes_of, header, table_records, file_of, file_length}
 use Rattle.files.specs.Order.{cell_at, first_cells}
 use Rattle.files.specs.Progress.{Counted, Put}
-use Rattle.files.proofs.Cells.{map-counting-append, cells_by_index}
+use Rattle.files.proofs.Cells.{map-range_with_len-append, cells_by_index}
 use Rattle.sheets.specs.Tables.{Tables}
 
 -- ---- what is read at one cell, of a structure that is as it was before
@@ -60,7 +60,7 @@ module _ (code : ℕ → ℕ) (T : Tables) (n m : ℕ) where
   records_grow i j h =
       let k : i + (j - i) ≡ j = omega arith in
       let parts : records_of code T (first_cells n m j) ≡ records_of code T (first_cells n m i) ++ records_of code T (map (cell_at n m) (range_with_len i (j - i)))
-      = ap (λ (x : ℕ). records_of code T (first_cells n m x)) (sym k) ∙ ap (records_of code T) (sym (map-counting-append (cell_at n m) 0 i i (j - i) (omega arith))) ∙ records_of-append (first_cells n m i) (map (cell_at n m) (range_with_len i (j - i))) in
+      = ap (λ (x : ℕ). records_of code T (first_cells n m x)) (sym k) ∙ ap (records_of code T) (sym (map-range_with_len-append (cell_at n m) 0 i i (j - i) (omega arith))) ∙ records_of-append (first_cells n m i) (map (cell_at n m) (range_with_len i (j - i))) in
       omega (arith, ap length parts, length-append (records_of code T (first_cells n m i)) (records_of code T (map (cell_at n m) (range_with_len i (j - i)))))
 
 -- ---- bytes

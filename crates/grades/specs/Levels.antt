@@ -25,10 +25,11 @@ yes_no_level Yes = 1
 
 -- ---- codes
 
--- of a scale whose codes are its levels, and that has a grade at each
+-- the code of a level, on a scale whose codes are its levels
 abbrev pub own_code : (level : ℕ) → ℕ
 own_code level = level
 
+-- the level of a code there, where each level up to the height has a grade
 abbrev pub level_of_code : (height code : ℕ) → Option ℕ
 level_of_code height code = cond (nat_le code height) (Some code) None
 

@@ -1,6 +1,6 @@
 ghost use Rattle.std.specs.Prelude.{◌≡◌, Some, decimal, nat_le};
 ghost use Rattle.grades.specs.Levels.{thousandths_level, thousandths_opposite, level_of_code};
-ghost use Rattle.std.proofs.Common.{arith, rules};
+ghost use Rattle.std.proofs.Common.{rules};
 ghost use Rattle.grades.specs.Codes.{thousandths_lead_back, thousandths_encode};
 
 use crate::Scale;

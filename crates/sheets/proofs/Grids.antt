@@ -3,8 +3,7 @@ use Rattle.std.proofs.Common.{◌≡◌, ℕ, zero, suc, ◌+◌, ◌*◌, ◌/�
 use borrow.Author.Tests.{eqb-false}
 use lib.Arith.{digits_lt, digits_div, digits_mod}
 use lib.ListN.{length-map}
-use lib.Seq.{map-set}
-use Rattle.std.proofs.lemmas.List.{get_or-map}
+use Rattle.std.proofs.lemmas.List.{map-set, get_or-map}
 use Rattle.sheets.specs.Tables.{Tables, Limits, Bounded, through, all_floor, updated, with_step, with_mark}
 use Rattle.sheets.specs.Sheets.{states_of, marks_of, step_cell, mark_cell, inside, sheet_tables, memory_tables, Whole}
 

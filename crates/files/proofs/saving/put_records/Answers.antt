@@ -1,5 +1,5 @@
 use Rattle.std.proofs.Common.{◌≡◌, ℕ, ◌+◌, ◌*◌, ◌≤◌, length, sym, ap, ◌∙◌, arith, rules}
-use lib.Seq.{sets}
+use Rattle.std.proofs.lemmas.List.Edits.{sets}
 use Rattle.files.specs.Format.{record_bytes, records_of, bytes_of}
 use Rattle.files.specs.Order.{cell_at, first_cells}
 use Rattle.files.proofs.Cells.{cells_by_index}
