@@ -4,18 +4,18 @@ ghost use Rattle.grades.specs.Refusals.{cut_number, cut_refusal};
 ghost use Rattle.grades.specs.Maps.{cut_at};
 ghost use Rattle.std.proofs.Common.{rules};
 
-use crate::{GradeMap, Scale, YesNo};
+use crate::{GradeMap, Refusal, Scale, YesNo};
 
 /// Why a cut is refused.
-#[derive(Clone, Copy, Debug)]
+#[derive(Clone, Copy, Debug, PartialEq, Eq)]
 pub enum CutRefusal {
     AtFloor,
 }
 
-impl CutRefusal {
-    pub fn number(self) -> u8
-        ensures { result ≡ cut_number self }
-    {
+impl Refusal for CutRefusal {
+    ghost number = { cut_number };
+
+    fn number(self) -> u8 {
         match self {
             CutRefusal::AtFloor => 6,
         }

@@ -3,6 +3,7 @@
 mod cut;
 mod grade_map;
 mod maps;
+mod refusal;
 mod scale;
 mod thousandths;
 mod words;
@@ -11,6 +12,7 @@ mod yes_no;
 pub use cut::{Cut, CutRefusal};
 pub use grade_map::GradeMap;
 pub use maps::{ThousandthsToWords, WordsToThousandths};
+pub use refusal::Refusal;
 pub use scale::Scale;
 pub use thousandths::Thousandths;
 pub use words::Words;

@@ -1,7 +1,7 @@
 ghost use Rattle.std.specs.Prelude.{◌≡◌, Some, decimal, nat_le};
 ghost use Rattle.grades.specs.Levels.{thousandths_level, thousandths_opposite, level_of_code};
 ghost use Rattle.std.proofs.Common.{rules};
-ghost use Rattle.grades.specs.Codes.{thousandths_lead_back, thousandths_encode};
+ghost use Rattle.grades.specs.Codes.{encoded, thousandths_at};
 
 use crate::Scale;
 use std::fmt;
@@ -67,9 +67,9 @@ impl Scale for Thousandths {
 
     ghost decodes = { Prim.search rules };
 
-    ghost leads_back = { thousandths_lead_back };
+    ghost leads_back = { Prim.search rules };
 
-    ghost encodes = { thousandths_encode };
+    ghost encodes = { encoded thousandths_level 1000 thousandths_at };
 
     fn number() -> u8 {
         1

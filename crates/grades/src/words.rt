@@ -2,14 +2,14 @@ ghost use Rattle.grades.specs.declared.words.Words.TheVariants.{Never, Sure};
 ghost use Rattle.std.specs.Prelude.{◌≡◌, Some, nat_le};
 ghost use Rattle.grades.specs.Levels.{word_level, word_opposite, level_of_code};
 ghost use Rattle.grades.specs.Names.{word_name};
-ghost use Rattle.grades.specs.Codes.{words_lead_back, words_encode};
+ghost use Rattle.grades.specs.Codes.{encoded, word_at};
 ghost use Rattle.std.proofs.Common.{rules};
 
 use crate::Scale;
 use std::fmt;
 
 /// A grade in seven words.
-#[derive(Clone, Copy, Debug)]
+#[derive(Clone, Copy, Debug, PartialEq, Eq, PartialOrd, Ord)]
 pub enum Words {
     Never,
     Hardly,
@@ -20,25 +20,11 @@ pub enum Words {
     Sure,
 }
 
-impl Words {
-    fn level(self) -> u16
-        ensures { result ≡ word_level self }
-    {
-        match self {
-            Words::Never => 0,
-            Words::Hardly => 1,
-            Words::Seldom => 2,
-            Words::Even => 3,
-            Words::Often => 4,
-            Words::Mostly => 5,
-            Words::Sure => 6,
-        }
-    }
+impl fmt::Display for Words {
+    ghost output = { λ word. Some (word_name word) };
 
-    fn name(self) -> &'static str
-        ensures { result.now ≡ word_name self }
-    {
-        match self {
+    fn fmt<W: fmt::Write>(&self, f: &mut fmt::Formatter<W>) -> fmt::Result {
+        f.write_str(match self {
             Words::Never => "never",
             Words::Hardly => "hardly",
             Words::Seldom => "seldom",
@@ -46,15 +32,7 @@ impl Words {
             Words::Often => "often",
             Words::Mostly => "mostly",
             Words::Sure => "sure",
-        }
-    }
-}
-
-impl fmt::Display for Words {
-    ghost output = { λ word. Some (word_name word) };
-
-    fn fmt<W: fmt::Write>(&self, f: &mut fmt::Formatter<W>) -> fmt::Result {
-        f.write_str(self.name())
+        })
     }
 }
 
@@ -97,9 +75,9 @@ impl Scale for Words {
 
     ghost decodes = { Prim.search rules };
 
-    ghost leads_back = { words_lead_back };
+    ghost leads_back = { Prim.search rules };
 
-    ghost encodes = { words_encode };
+    ghost encodes = { encoded word_level 6 word_at };
 
     fn number() -> u8 {
         2
@@ -110,7 +88,7 @@ impl Scale for Words {
     }
 
     fn at_most(self, other: Words) -> bool {
-        self.level() <= other.level()
+        self <= other
     }
 
     fn floor() -> Words {
@@ -134,7 +112,7 @@ impl Scale for Words {
     }
 
     fn code(self) -> u16 {
-        self.level()
+        self as u16
     }
 
     fn of_code(wanted: u16) -> Option<Words> {

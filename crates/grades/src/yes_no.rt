@@ -2,35 +2,27 @@ ghost use Rattle.grades.specs.declared.yes_no.YesNo.TheVariants.{No, Yes};
 ghost use Rattle.std.specs.Prelude.{◌≡◌, Some, nat_le};
 ghost use Rattle.grades.specs.Names.{yes_no_name};
 ghost use Rattle.grades.specs.Levels.{yes_no_level, yes_no_opposite, level_of_code};
-ghost use Rattle.grades.specs.Codes.{answers_lead_back, answers_encode};
+ghost use Rattle.grades.specs.Codes.{encoded, answer_at};
 ghost use Rattle.std.proofs.Common.{rules};
 
 use crate::Scale;
 use std::fmt;
 
 /// A grade that is yes or no.
-#[derive(Clone, Copy, Debug)]
+#[derive(Clone, Copy, Debug, PartialEq, Eq, PartialOrd, Ord)]
 pub enum YesNo {
     No,
     Yes,
-}
-
-impl YesNo {
-    fn name(self) -> &'static str
-        ensures { result.now ≡ yes_no_name self }
-    {
-        match self {
-            YesNo::No => "no",
-            YesNo::Yes => "yes",
-        }
-    }
 }
 
 impl fmt::Display for YesNo {
     ghost output = { λ answer. Some (yes_no_name answer) };
 
     fn fmt<W: fmt::Write>(&self, f: &mut fmt::Formatter<W>) -> fmt::Result {
-        f.write_str(self.name())
+        f.write_str(match self {
+            YesNo::No => "no",
+            YesNo::Yes => "yes",
+        })
     }
 }
 
@@ -73,9 +65,9 @@ impl Scale for YesNo {
 
     ghost decodes = { Prim.search rules };
 
-    ghost leads_back = { answers_lead_back };
+    ghost leads_back = { Prim.search rules };
 
-    ghost encodes = { answers_encode };
+    ghost encodes = { encoded yes_no_level 1 answer_at };
 
     fn number() -> u8 {
         3
@@ -86,10 +78,7 @@ impl Scale for YesNo {
     }
 
     fn at_most(self, other: YesNo) -> bool {
-        match (self, other) {
-            (YesNo::Yes, YesNo::No) => false,
-            _ => true,
-        }
+        self <= other
     }
 
     fn floor() -> YesNo {
@@ -108,10 +97,7 @@ impl Scale for YesNo {
     }
 
     fn code(self) -> u16 {
-        match self {
-            YesNo::No => 0,
-            YesNo::Yes => 1,
-        }
+        self as u16
     }
 
     fn of_code(wanted: u16) -> Option<YesNo> {
