@@ -1,14 +1,9 @@
 -- What a sheet's memory means: for each state a stretch of cells, its steps and then its marks.
-use Rattle.std.specs.Prelude.{◌≡◌, ℕ, ◌+◌, ◌*◌, min, max, cond, List, map, length, nat_lt, slice_index}
+use Rattle.std.specs.Prelude.{◌≡◌, ℕ, ◌+◌, ◌*◌, cond, List, map, length, nat_lt, slice_index}
+use Rattle.grades.specs.declared.scale.Scale as scale
 use Rattle.sheets.specs.declared.sheet.Sheet.{Sheet}
+use Rattle.sheets.specs.declared.size.Size.{Size}
 use Rattle.sheets.specs.Tables.{Tables, Limits}
-
--- a size outside the limits counts as the nearest limit
-abbrev pub states_of : ℕ → ℕ
-states_of n = max 1 (min n 64)
-
-abbrev pub marks_of : ℕ → ℕ
-marks_of m = min m 16
 
 -- where in the memory of n states and m marks a step lies, and a mark
 abbrev pub step_cell : (n m from to : ℕ) → ℕ
@@ -24,19 +19,19 @@ inside s n c w p = cond (nat_lt s n) (cond (nat_lt c w) p 0) 0
 -- over memory of these levels; past its end stands the floor
 abbrev pub sheet_tables : (n m height : ℕ) → List ℕ → Tables
 sheet_tables n m height cells = record {
-  states = states_of n;
-  marks = marks_of m;
+  states = n;
+  marks = m;
   height = height;
-  step = λ s t. inside s (states_of n) t (states_of n) (slice_index cells (step_cell (states_of n) (marks_of m) s t));
-  mark = λ s k. inside s (states_of n) k (marks_of m) (slice_index cells (mark_cell (states_of n) (marks_of m) s k));
+  step = λ s t. inside s n t n (slice_index cells (step_cell n m s t));
+  mark = λ s k. inside s n k m (slice_index cells (mark_cell n m s k));
 }
 
--- what memory means, over a scale of these levels and this height
-abbrev pub memory_tables : {S : Type 0} → (S → ℕ) → (n m height : ℕ) → List S → Tables
-memory_tables level n m height grades = sheet_tables n m height (map level grades)
+-- what memory means to a sheet of this size
+abbrev pub memory_tables : {S : Type 0} → scale.Ghosts S → Size → List S → Tables
+memory_tables s size grades = sheet_tables size.states size.marks s.height (map s.level grades)
 
-abbrev pub tables_of : {S : Type 0} → (S → ℕ) → (height : ℕ) → Sheet S → Tables
-tables_of level height sheet = memory_tables level sheet.n sheet.m height sheet.grades.now
+abbrev pub tables_of : {S : Type 0} → scale.Ghosts S → Sheet S → Tables
+tables_of s sheet = memory_tables s sheet.size sheet.grades.now
 
 -- sizes within the limits, and a cell for each step and each mark
 pub record Whole (n m cells : ℕ) : Type 0 where
@@ -44,11 +39,10 @@ pub record Whole (n m cells : ℕ) : Type 0 where
   pub room : cells ≡ n * (n + m)
 
 abbrev pub IsWhole : {S : Type 0} → Sheet S → Type 0
-IsWhole sheet = Whole sheet.n sheet.m (length sheet.grades.now)
+IsWhole sheet = Whole sheet.size.states sheet.size.marks (length sheet.grades.now)
 
 -- what every call on a sheet keeps: its size, and that it is over the same memory
 pub record Kept {S : Type 0} (before after : Sheet S) : Type 0 where
-  pub n : after.n ≡ before.n
-  pub m : after.m ≡ before.m
+  pub size : after.size ≡ before.size
   pub length_same : length after.grades.now ≡ length before.grades.now
   pub memory_same : after.grades.ghost_name ≡ before.grades.ghost_name

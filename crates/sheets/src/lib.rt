@@ -1,5 +1,6 @@
 #![tactic(auto)]
 
+mod cell;
 mod refusal;
 mod sheet;
 mod size;

@@ -1,8 +1,9 @@
-ghost use Rattle.std.specs.Prelude.{◌≡◌};
 ghost use Rattle.sheets.specs.Refusals.{size_number, draw_number, mark_number};
 
+use grades::Refusal;
+
 /// Why a sheet is not made.
-#[derive(Clone, Copy, Debug)]
+#[derive(Clone, Copy, Debug, PartialEq, Eq)]
 pub enum SizeRefusal {
     /// the states are not 1 to 64
     States,
@@ -13,7 +14,7 @@ pub enum SizeRefusal {
 }
 
 /// Why a step is not drawn.
-#[derive(Clone, Copy, Debug)]
+#[derive(Clone, Copy, Debug, PartialEq, Eq)]
 pub enum DrawRefusal {
     /// the sheet is over memory of another length than passed
     Memory,
@@ -22,7 +23,7 @@ pub enum DrawRefusal {
 }
 
 /// Why a state is not marked.
-#[derive(Clone, Copy, Debug)]
+#[derive(Clone, Copy, Debug, PartialEq, Eq)]
 pub enum MarkRefusal {
     /// the sheet is over memory of another length than passed
     Memory,
@@ -32,10 +33,10 @@ pub enum MarkRefusal {
     Mark,
 }
 
-impl SizeRefusal {
-    pub fn number(self) -> u8
-        ensures { result ≡ size_number self }
-    {
+impl Refusal for SizeRefusal {
+    ghost number = { size_number };
+
+    fn number(self) -> u8 {
         match self {
             SizeRefusal::States | SizeRefusal::Marks => 4,
             SizeRefusal::Memory => 5,
@@ -43,10 +44,10 @@ impl SizeRefusal {
     }
 }
 
-impl DrawRefusal {
-    pub fn number(self) -> u8
-        ensures { result ≡ draw_number self }
-    {
+impl Refusal for DrawRefusal {
+    ghost number = { draw_number };
+
+    fn number(self) -> u8 {
         match self {
             DrawRefusal::Memory => 5,
             DrawRefusal::State => 2,
@@ -54,10 +55,10 @@ impl DrawRefusal {
     }
 }
 
-impl MarkRefusal {
-    pub fn number(self) -> u8
-        ensures { result ≡ mark_number self }
-    {
+impl Refusal for MarkRefusal {
+    ghost number = { mark_number };
+
+    fn number(self) -> u8 {
         match self {
             MarkRefusal::Memory => 5,
             MarkRefusal::State => 2,

@@ -1,11 +1,9 @@
-ghost use Rattle.std.specs.Prelude.{◌≤◌};
+ghost use Rattle.sheets.specs.Tables.{Limits};
 
 /// How many states and marks a structure has, within the limits.
-#[derive(Clone, Copy, Debug)]
+#[derive(Clone, Copy, Debug, PartialEq, Eq)]
 pub struct Size {
     pub(crate) states: usize,
     pub(crate) marks: usize,
-    ghost least: { 1 ≤ states },
-    ghost most: { states ≤ 64 },
-    ghost few: { marks ≤ 16 },
+    ghost limits: { Limits states marks },
 }

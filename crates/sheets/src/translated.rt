@@ -1,5 +1,6 @@
 ghost use Rattle.std.specs.Prelude.{◌≡◌};
-ghost use Rattle.sheets.specs.Tables.{Bounded, through};
+ghost use Rattle.sheets.specs.Bounds.{through_bounded};
+ghost use Rattle.sheets.specs.Tables.{through};
 
 use crate::Structure;
 use grades::GradeMap;
@@ -20,38 +21,12 @@ impl<K, M> Translated<K, M> {
     }
 }
 
-/// A step's grade below, as the map takes it.
-fn step_through<M: GradeMap, K: Structure<Grade = M::From>>(
-    below: &mut K,
-    map: &M,
-    from: usize,
-    to: usize,
-) -> M::To
-    ensures value { M.To.Scale.level result ≡ M.GradeMap.table map.now ((K.Structure.tables below.old).step from to) }
-    ensures same { below.new ≡ below.old }
-    ensures bounded { Bounded M.To.Scale.height (through (M.GradeMap.table map.now) M.To.Scale.height (K.Structure.tables below.old)) }
-{
-    map.image(below.step_grade(from, to))
-}
-
-/// A mark's grade below, as the map takes it.
-fn mark_through<M: GradeMap, K: Structure<Grade = M::From>>(
-    below: &mut K,
-    map: &M,
-    state: usize,
-    which: usize,
-) -> M::To
-    ensures value { M.To.Scale.level result ≡ M.GradeMap.table map.now ((K.Structure.tables below.old).mark state which) }
-    ensures same { below.new ≡ below.old }
-    ensures bounded { Bounded M.To.Scale.height (through (M.GradeMap.table map.now) M.To.Scale.height (K.Structure.tables below.old)) }
-{
-    map.image(below.mark_grade(state, which))
-}
-
 impl<M: GradeMap, K: Structure<Grade = M::From>> Structure for Translated<K, M> {
     type Grade = M::To;
 
     ghost tables = { λ k. through (M.GradeMap.table k.map) M.To.Scale.height (K.Structure.tables k.below) };
+
+    ghost bounded = { λ k. through_bounded (M.GradeMap.table k.map) _ _ (M.GradeMap.ordered k.map) (M.GradeMap.floors k.map) (M.GradeMap.tops k.map) _ (K.Structure.bounded k.below) };
 
     fn states(&mut self) -> usize {
         self.below.states()
@@ -62,10 +37,10 @@ impl<M: GradeMap, K: Structure<Grade = M::From>> Structure for Translated<K, M> 
     }
 
     fn step_grade(&mut self, from: usize, to: usize) -> M::To {
-        step_through(&mut self.below, &self.map, from, to)
+        self.map.image(self.below.step_grade(from, to))
     }
 
     fn mark_grade(&mut self, state: usize, which: usize) -> M::To {
-        mark_through(&mut self.below, &self.map, state, which)
+        self.map.image(self.below.mark_grade(state, which))
     }
 }

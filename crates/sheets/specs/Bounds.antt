@@ -1,0 +1,53 @@
+-- What a sheet's memory means, and what a map makes of tables, lies within the bounds: lemmas for the laws of structures.
+use Rattle.std.specs.Prelude.{◌≡◌, ℕ, zero, suc, ◌+◌, ◌*◌, ◌≤◌, true, false, cond, ◌⊎◌, List, [], ◌∷◌, map, nat_lt, slice_index, refl}
+use Rattle.std.proofs.Common.{ap, ◌∙◌, inl, inr, arith, le-ltb}
+use Rattle.grades.specs.declared.scale.Scale as scale
+use Rattle.sheets.specs.declared.size.Size.{Size}
+use Rattle.sheets.specs.Sheets.{inside, memory_tables}
+use Rattle.sheets.specs.Tables.{Tables, Bounded, through}
+
+-- rows of one width, each with its columns at some places; outside stands the floor
+abbrev pub grid : List ℕ → (rows columns width : ℕ) → (column : ℕ → ℕ) → (s c : ℕ) → ℕ
+grid xs rows columns width column s c = inside s rows c columns (slice_index xs (s * width + column c))
+
+pub grid_within : (h : ℕ) (xs : List ℕ) → ((i : ℕ) → slice_index xs i ≤ h) → (rows columns width : ℕ) (column : ℕ → ℕ) (s c : ℕ) → grid xs rows columns width column s c ≤ h
+grid_within h xs w rows columns width column s c =
+    elim (nat_lt s rows) as (λ v. cond v (cond (nat_lt c columns) (slice_index xs (s * width + column c)) 0) 0 ≤ h) [
+      | true ↦ elim (nat_lt c columns) as (λ v. cond v (slice_index xs (s * width + column c)) 0 ≤ h) [ true ↦ w (s * width + column c) | false ↦ omega arith ]
+      | false ↦ omega arith
+    ]
+
+pub grid_outside : (xs : List ℕ) (rows columns width : ℕ) (column : ℕ → ℕ) (s c : ℕ) → (rows ≤ s) ⊎ (columns ≤ c) → grid xs rows columns width column s c ≡ 0
+grid_outside xs rows columns width column s c (inl h) = rw (le-ltb s rows h)
+grid_outside xs rows columns width column s c (inr h) =
+    elim (nat_lt s rows) as (λ v. cond v (cond (nat_lt c columns) (slice_index xs (s * width + column c)) 0) 0 ≡ 0) [ true ↦ rw (le-ltb c columns h) | false ↦ refl ]
+
+levels_within : {S : Type 0} (level : S → ℕ) (h : ℕ) → ((x : S) → level x ≤ h) → (xs : List S) (i : ℕ) → slice_index (map level xs) i ≤ h
+levels_within level h w [] i = omega arith
+levels_within level h w (x ∷ xs) zero = w x
+levels_within level h w (x ∷ xs) (suc i) = levels_within level h w xs i
+
+pub memory_bounded : {S : Type 0} (s : scale.Ghosts S) → ((x : S) → s.level x ≤ s.height) → (size : Size) (grades : List S) → Bounded s.height (memory_tables s size grades)
+memory_bounded s within size grades =
+    let n = size.states in
+    let m = size.marks in
+    let xs = map s.level grades in
+    let low = levels_within s.level s.height within grades in
+    record {
+      tall = refl;
+      limits = size.limits;
+      steps_within = grid_within s.height xs low n n (n + m) (λ t. t);
+      marks_within = grid_within s.height xs low n m (n + m) (λ k. n + k);
+      steps_outside = grid_outside xs n n (n + m) (λ t. t);
+      marks_outside = grid_outside xs n m (n + m) (λ k. n + k);
+    }
+
+pub through_bounded : (f : ℕ → ℕ) (h₁ h₂ : ℕ) → ((p q : ℕ) → p ≤ q → q ≤ h₁ → f p ≤ f q) → f 0 ≡ 0 → f h₁ ≡ h₂ → (T : Tables) → Bounded h₁ T → Bounded h₂ (through f h₂ T)
+through_bounded f h₁ h₂ ordered floor top T bounded = record {
+  tall = refl;
+  limits = bounded.limits;
+  steps_within = λ s t. let l : f (T.step s t) ≤ f h₁ = ordered (T.step s t) h₁ (bounded.steps_within s t) (omega arith) in omega arith;
+  marks_within = λ s k. let l : f (T.mark s k) ≤ f h₁ = ordered (T.mark s k) h₁ (bounded.marks_within s k) (omega arith) in omega arith;
+  steps_outside = λ s t out. ap f (bounded.steps_outside s t out) ∙ floor;
+  marks_outside = λ s k out. ap f (bounded.marks_outside s k out) ∙ floor;
+}
