@@ -5,10 +5,12 @@ ghost use Rattle.grades.specs.Maps.{cut_at};
 ghost use Rattle.std.proofs.Common.{rules};
 
 use crate::{GradeMap, Refusal, Scale, YesNo};
+use thiserror::Error;
 
 /// Why a cut is refused.
-#[derive(Clone, Copy, Debug, PartialEq, Eq)]
+#[derive(Clone, Copy, Debug, PartialEq, Eq, Error)]
 pub enum CutRefusal {
+    #[error("a cut at the floor")]
     AtFloor,
 }
 

@@ -1,35 +1,36 @@
 ghost use Rattle.sheets.specs.Refusals.{size_number, draw_number, mark_number};
 
 use grades::Refusal;
+use thiserror::Error;
 
 /// Why a sheet is not made.
-#[derive(Clone, Copy, Debug, PartialEq, Eq)]
+#[derive(Clone, Copy, Debug, PartialEq, Eq, Error)]
 pub enum SizeRefusal {
-    /// the states are not 1 to 64
+    #[error("the states are not 1 to 64")]
     States,
-    /// the marks are above 16
+    #[error("the marks are above 16")]
     Marks,
-    /// the memory has not one grade for each step and each mark
+    #[error("the memory has not one grade for each step and each mark")]
     Memory,
 }
 
 /// Why a step is not drawn.
-#[derive(Clone, Copy, Debug, PartialEq, Eq)]
+#[derive(Clone, Copy, Debug, PartialEq, Eq, Error)]
 pub enum DrawRefusal {
-    /// the sheet is over memory of another length than passed
+    #[error("the sheet is over memory of another length than passed")]
     Memory,
-    /// no such state
+    #[error("no such state")]
     State,
 }
 
 /// Why a state is not marked.
-#[derive(Clone, Copy, Debug, PartialEq, Eq)]
+#[derive(Clone, Copy, Debug, PartialEq, Eq, Error)]
 pub enum MarkRefusal {
-    /// the sheet is over memory of another length than passed
+    #[error("the sheet is over memory of another length than passed")]
     Memory,
-    /// no such state
+    #[error("no such state")]
     State,
-    /// no such mark
+    #[error("no such mark")]
     Mark,
 }
 
