@@ -1,7 +1,6 @@
 -- The bearing sheet, in thousandths: three states, and the marks a (0) and b (1).
 use Rattle.std.specs.Prelude.{◌≡◌, ℕ, true, List, [], ◌∷◌, is_ok, Result}
-use Rattle.grades.specs.declared.thousandths.Thousandths.{Thousandths}
-use Rattle.grades.specs.Levels.{thousandths_level}
+use Rattle.grades.specs.declared.scale.Scale as scale
 use Rattle.sheets.specs.declared.sheet.Sheet.{Sheet}
 use Rattle.sheets.specs.Sheets.{IsWhole, Kept, tables_of}
 use Rattle.sheets.specs.Tables.{Tables, all_floor, with_step, with_mark}
@@ -25,11 +24,8 @@ with_marks T (mark ∷ more) = with_marks (with_mark T mark.0 mark.1 mark.2) mor
 abbrev pub bearing : Tables
 bearing = with_marks (with_steps (all_floor 3 2 1000) bearing_steps) bearing_marks
 
-abbrev pub thousandths_of : Sheet Thousandths → Tables
-thousandths_of sheet = tables_of thousandths_level 1000 sheet
-
--- a whole sheet of the bearing's size takes every call, and its tables are made into others
-pub record Becomes {E : Type 0} (after_tables : Tables) (before after : Sheet Thousandths) (answer : Result (Unit {0}) E) : Type 0 where
+-- a whole sheet of the bearing's size takes every call, and its tables are changed so
+pub record Becomes {S E : Type 0} (s : scale.Ghosts S) (change : Tables → Tables) (before after : Sheet S) (answer : Result (Unit {0}) E) : Type 0 where
   pub kept : Kept before after
   pub accepted : IsWhole before → before.n ≡ 3 → before.m ≡ 2 → is_ok answer ≡ true
-  pub tables : is_ok answer ≡ true → thousandths_of after ≡ after_tables
+  pub tables : is_ok answer ≡ true → tables_of s after ≡ change (tables_of s before)

@@ -2,18 +2,18 @@
 #![tactic(auto)]
 
 ghost use Rattle.std.specs.Prelude.{◌≡◌, ◌<◌, true, length, is_ok, MatchOption};
+ghost use Rattle.sheets.specs.Sheets.{tables_of};
 ghost use Rattle.sheets.specs.Tables.{all_floor};
-ghost use Rattle.grades.specs.Levels.{own_code};
 ghost use Rattle.files.specs.Format.{table_records, file_length};
-ghost use Rattle.files.specs.Views.{thousandths_tables};
-ghost use Rattle.bearing.specs.Bearing.{Becomes, thousandths_of, with_steps, with_marks, bearing_steps, bearing_marks, bearing};
+ghost use Rattle.bearing.specs.Bearing.{Becomes, with_steps, with_marks, bearing_steps, bearing_marks, bearing};
 
 use anyhow::anyhow;
 use files::{ThousandthsView, save};
-use grades::{Scale, Thousandths, ThousandthsToWords};
+use grades::{Refusal, Scale, Thousandths, ThousandthsToWords};
 use sheets::{DrawRefusal, MarkRefusal, Sheet, Size, Structure, Translated};
 use std::fmt::Display;
 use std::io;
+use thiserror::Error;
 
 const STATES: usize = 3;
 
@@ -25,8 +25,17 @@ const HEADER: usize = 10;
 
 const RECORD: usize = 5;
 
+/// Why the bearing sheet is not drawn.
+#[derive(Clone, Copy, Debug, Error)]
+enum DrawingRefusal {
+    #[error("a step is refused: {0}")]
+    Step(#[from] DrawRefusal),
+    #[error("a mark is refused: {0}")]
+    Mark(#[from] MarkRefusal),
+}
+
 fn draw_steps(sheet: &mut Sheet<Thousandths>) -> Result<(), DrawRefusal>
-    ensures { Becomes (with_steps (thousandths_of sheet.old) bearing_steps) sheet.old sheet.new result }
+    ensures { Becomes ⟦<Thousandths as Scale>⟧ (λ T. with_steps T bearing_steps) sheet.old sheet.new result }
 {
     sheet.draw(0, 0, Thousandths(700))?;
     sheet.draw(0, 1, Thousandths(900))?;
@@ -37,7 +46,7 @@ fn draw_steps(sheet: &mut Sheet<Thousandths>) -> Result<(), DrawRefusal>
 }
 
 fn mark_states(sheet: &mut Sheet<Thousandths>) -> Result<(), MarkRefusal>
-    ensures { Becomes (with_marks (thousandths_of sheet.old) bearing_marks) sheet.old sheet.new result }
+    ensures { Becomes ⟦<Thousandths as Scale>⟧ (λ T. with_marks T bearing_marks) sheet.old sheet.new result }
 {
     sheet.mark(0, 0, Thousandths(1000))?;
     sheet.mark(1, 0, Thousandths(500))?;
@@ -48,17 +57,13 @@ fn mark_states(sheet: &mut Sheet<Thousandths>) -> Result<(), MarkRefusal>
     Ok(())
 }
 
-/// Draws the steps and marks the states, or answers the number of the refusal.
-fn draw_bearing(sheet: &mut Sheet<Thousandths>) -> Result<(), u8>
-    ensures becomes { Becomes (with_marks (with_steps (thousandths_of sheet.old) bearing_steps) bearing_marks) sheet.old sheet.new result }
-    ensures drawn { thousandths_of sheet.old ≡ all_floor 3 2 1000 → is_ok result ≡ true → thousandths_of sheet.new ≡ bearing }
+/// Draws the steps and marks the states.
+fn draw_bearing(sheet: &mut Sheet<Thousandths>) -> Result<(), DrawingRefusal>
+    ensures becomes { Becomes ⟦<Thousandths as Scale>⟧ (λ T. with_marks (with_steps T bearing_steps) bearing_marks) sheet.old sheet.new result }
+    ensures drawn { tables_of ⟦<Thousandths as Scale>⟧ sheet.old ≡ all_floor 3 2 1000 → is_ok result ≡ true → tables_of ⟦<Thousandths as Scale>⟧ sheet.new ≡ bearing }
 {
-    if let Err(refusal) = draw_steps(sheet) {
-        return Err(refusal.number());
-    }
-    if let Err(refusal) = mark_states(sheet) {
-        return Err(refusal.number());
-    }
+    draw_steps(sheet)?;
+    mark_states(sheet)?;
     Ok(())
 }
 
@@ -88,9 +93,9 @@ fn print_steps<K: Structure>(rt: &impl Print, structure: &mut K) -> io::Result<(
 where
     K::Grade: Display,
 {
-    let states = structure.states();
-    for from in 0..states {
-        for to in 0..states {
+    let size = Size::of(structure);
+    for from in 0..size.states() {
+        for to in 0..size.states() {
             let grade = structure.step_grade(from, to);
             if !grade.at_most(<K::Grade as Scale>::floor()) {
                 println!(rt; "step {from} to {to}: {grade}")?;
@@ -140,41 +145,29 @@ fn print_file(rt: &impl Print, file: &[u8]) -> io::Result<()> {
     Ok(())
 }
 
-fn print_answer(rt: &impl Print, call: &str, refusal: Option<u8>) -> io::Result<()> {
-    match refusal {
-        Some(number) => println!(rt; "{call}: refused, {number}"),
-        None => println!(rt; "{call}: taken"),
+fn print_answer<T: Drop, R: Refusal>(
+    rt: &impl Print,
+    call: &str,
+    answer: Result<T, R>,
+) -> io::Result<()> {
+    match answer {
+        Ok(_) => println!(rt; "{call}: taken"),
+        Err(refusal) => println!(rt; "{call}: refused, {}", refusal.number()),
     }
 }
 
 fn print_refusals(rt: &impl Print, sheet: &mut Sheet<Thousandths>) -> io::Result<()> {
-    let draw = match sheet.draw(0, 3, Thousandths(500)) {
-        Ok(()) => None,
-        Err(refusal) => Some(refusal.number()),
-    };
-    print_answer(rt, "step 0 to 3", draw)?;
-    let mark = match sheet.mark(0, 2, Thousandths(500)) {
-        Ok(()) => None,
-        Err(refusal) => Some(refusal.number()),
-    };
-    print_answer(rt, "mark c in 0", mark)?;
+    print_answer(rt, "step 0 to 3", sheet.draw(0, 3, Thousandths(500)))?;
+    print_answer(rt, "mark c in 0", sheet.mark(0, 2, Thousandths(500)))?;
     let mut short = [0; 54];
-    let saved = match save(sheet, &mut short) {
-        Ok(_) => None,
-        Err(refusal) => Some(refusal.number()),
-    };
-    print_answer(rt, "saving into 54 bytes", saved)
+    print_answer(rt, "saving into 54 bytes", save(sheet, &mut short))
 }
 
 fn run(rt: &HostRuntime) -> anyhow::Result<()> {
     let mut memory = [Thousandths(0); CELLS];
-    let Ok(size) = Size::new(STATES, MARKS, memory.len()) else {
-        return Err(anyhow!("the size is refused"));
-    };
+    let size = Size::new(STATES, MARKS, memory.len())?;
     let mut sheet = Sheet::new(size, &mut memory);
-    if draw_bearing(&mut sheet).is_err() {
-        return Err(anyhow!("a step or a mark is refused"));
-    }
+    draw_bearing(&mut sheet)?;
     println!(rt; "the bearing sheet, in thousandths: what is above the floor")?;
     print_steps(rt, &mut sheet)?;
     print_marks(rt, &mut sheet)?;

@@ -2,17 +2,15 @@ use files::{
     FileCause, FileFault, GradeFault, RecordCause, RecordFault, ThousandthsView, WordsView,
     YesNoView, check as check_file, save,
 };
-use grades::{Scale, Thousandths, Words, WordsToThousandths, YesNo};
+use grades::{Refusal, Scale, Thousandths, Words, WordsToThousandths, YesNo};
 use sheets::{Sheet, Size, Structure, Translated};
 use std::process::Abort;
 use std::test::Fail;
 
 /// The number and the position of the first fault.
 fn fault<S: Scale>(bytes: &[u8]) -> Option<(u8, usize)> {
-    match check_file::<S>(bytes) {
-        Ok(()) => None,
-        Err(fault) => Some((fault.number(), fault.position)),
-    }
+    let fault = check_file::<S>(bytes).err()?;
+    Some((fault.number(), fault.position))
 }
 
 /// A file of two states and one mark: the step 0 to 0 and the mark in state 0 at code 1.
@@ -44,86 +42,83 @@ fn small<S: Scale>() -> [u8; 20] {
 /// Another byte at a position.
 type Change = (usize, u8);
 
-/// A change past the end, which changes nothing.
-const SAME: Change = (20, 0);
-
 /// Changes of the small file, and the number and the position of its fault then.
-type Case = ([Change; 3], Option<(u8, usize)>);
+type Case = (&'static [Change], Option<(u8, usize)>);
 
 const HEADERS: [Case; 28] = [
-    ([SAME, SAME, SAME], None),
-    ([(0, 119), SAME, SAME], Some((17, 0))),
-    ([(1, 72), SAME, SAME], Some((17, 0))),
-    ([(2, 83), SAME, SAME], Some((17, 0))),
-    ([(3, 0), SAME, SAME], Some((18, 3))),
-    ([(3, 2), SAME, SAME], Some((18, 3))),
-    ([(3, 0), (4, 1), SAME], Some((18, 3))),
-    ([(4, 1), SAME, SAME], Some((18, 3))),
-    ([(2, 0), (3, 2), SAME], Some((17, 0))),
-    ([(3, 2), (5, 255), SAME], Some((18, 3))),
-    ([(5, 0), SAME, SAME], Some((19, 5))),
-    ([(5, 4), SAME, SAME], Some((19, 5))),
-    ([(5, 255), (6, 65), SAME], Some((19, 5))),
-    ([(6, 0), SAME, SAME], Some((4, 6))),
-    ([(6, 1), SAME, SAME], None),
-    ([(6, 64), SAME, SAME], None),
-    ([(6, 65), SAME, SAME], Some((4, 6))),
-    ([(7, 16), SAME, SAME], None),
-    ([(7, 17), SAME, SAME], Some((4, 7))),
-    ([(6, 65), (7, 17), SAME], Some((4, 6))),
-    ([(6, 0), (8, 3), SAME], Some((4, 6))),
-    ([(7, 17), (8, 3), SAME], Some((4, 7))),
-    ([(5, 255), (6, 0), SAME], Some((19, 5))),
-    ([(7, 17), (9, 255), SAME], Some((4, 7))),
-    ([(6, 0), (9, 255), SAME], Some((4, 6))),
-    ([(1, 0), (6, 0), SAME], Some((17, 0))),
-    ([(0, 119), (1, 0), (6, 0)], Some((17, 0))),
-    ([(2, 0), (9, 255), SAME], Some((17, 0))),
+    (&[], None),
+    (&[(0, 119)], Some((17, 0))),
+    (&[(1, 72)], Some((17, 0))),
+    (&[(2, 83)], Some((17, 0))),
+    (&[(3, 0)], Some((18, 3))),
+    (&[(3, 2)], Some((18, 3))),
+    (&[(3, 0), (4, 1)], Some((18, 3))),
+    (&[(4, 1)], Some((18, 3))),
+    (&[(2, 0), (3, 2)], Some((17, 0))),
+    (&[(3, 2), (5, 255)], Some((18, 3))),
+    (&[(5, 0)], Some((19, 5))),
+    (&[(5, 4)], Some((19, 5))),
+    (&[(5, 255), (6, 65)], Some((19, 5))),
+    (&[(6, 0)], Some((4, 6))),
+    (&[(6, 1)], None),
+    (&[(6, 64)], None),
+    (&[(6, 65)], Some((4, 6))),
+    (&[(7, 16)], None),
+    (&[(7, 17)], Some((4, 7))),
+    (&[(6, 65), (7, 17)], Some((4, 6))),
+    (&[(6, 0), (8, 3)], Some((4, 6))),
+    (&[(7, 17), (8, 3)], Some((4, 7))),
+    (&[(5, 255), (6, 0)], Some((19, 5))),
+    (&[(7, 17), (9, 255)], Some((4, 7))),
+    (&[(6, 0), (9, 255)], Some((4, 6))),
+    (&[(1, 0), (6, 0)], Some((17, 0))),
+    (&[(0, 119), (1, 0), (6, 0)], Some((17, 0))),
+    (&[(2, 0), (9, 255)], Some((17, 0))),
 ];
 
 const RECORDS: [Case; 36] = [
-    ([(8, 1), SAME, SAME], Some((20, 8))),
-    ([(8, 3), SAME, SAME], Some((20, 8))),
-    ([(9, 1), SAME, SAME], Some((20, 8))),
-    ([(8, 1), (10, 0), SAME], Some((20, 8))),
-    ([(10, 0), SAME, SAME], Some((21, 10))),
-    ([(10, 3), SAME, SAME], Some((21, 10))),
-    ([(15, 3), SAME, SAME], Some((21, 15))),
-    ([(11, 1), SAME, SAME], None),
-    ([(11, 2), SAME, SAME], Some((2, 11))),
-    ([(12, 1), SAME, SAME], None),
-    ([(12, 2), SAME, SAME], Some((2, 12))),
-    ([(16, 2), SAME, SAME], Some((2, 16))),
-    ([(17, 1), SAME, SAME], Some((3, 17))),
-    ([(7, 0), SAME, SAME], Some((3, 17))),
-    ([(10, 0), (11, 2), SAME], Some((21, 10))),
-    ([(11, 2), (12, 2), SAME], Some((2, 11))),
-    ([(12, 2), (15, 3), SAME], Some((2, 12))),
-    ([(15, 1), SAME, SAME], Some((22, 15))),
-    ([(15, 1), (17, 1), SAME], None),
-    ([(15, 1), (16, 1), SAME], None),
-    ([(12, 1), (15, 1), SAME], Some((22, 15))),
-    ([(11, 1), (15, 1), (17, 1)], Some((22, 15))),
-    ([(10, 2), (15, 1), (16, 1)], Some((22, 15))),
-    ([(15, 1), (17, 2), SAME], Some((2, 17))),
-    ([(15, 1), (18, 0), SAME], Some((22, 15))),
-    ([(13, 0), SAME, SAME], Some((23, 13))),
-    ([(18, 0), SAME, SAME], Some((23, 18))),
-    ([(13, 255), (14, 255), SAME], Some((1, 13))),
-    ([(14, 128), SAME, SAME], Some((1, 13))),
-    ([(19, 128), SAME, SAME], Some((1, 18))),
-    ([(13, 0), (15, 3), SAME], Some((23, 13))),
-    ([(15, 0), SAME, SAME], Some((21, 15))),
-    ([(10, 2), (15, 1), (16, 2)], Some((2, 16))),
-    ([(11, 1), (15, 1), (17, 2)], Some((2, 17))),
-    ([(10, 2), (11, 1), (17, 1)], Some((3, 17))),
-    ([(15, 1), (19, 128), SAME], Some((22, 15))),
+    (&[(8, 1)], Some((20, 8))),
+    (&[(8, 3)], Some((20, 8))),
+    (&[(9, 1)], Some((20, 8))),
+    (&[(8, 1), (10, 0)], Some((20, 8))),
+    (&[(10, 0)], Some((21, 10))),
+    (&[(10, 3)], Some((21, 10))),
+    (&[(15, 3)], Some((21, 15))),
+    (&[(11, 1)], None),
+    (&[(11, 2)], Some((2, 11))),
+    (&[(12, 1)], None),
+    (&[(12, 2)], Some((2, 12))),
+    (&[(16, 2)], Some((2, 16))),
+    (&[(17, 1)], Some((3, 17))),
+    (&[(7, 0)], Some((3, 17))),
+    (&[(10, 0), (11, 2)], Some((21, 10))),
+    (&[(11, 2), (12, 2)], Some((2, 11))),
+    (&[(12, 2), (15, 3)], Some((2, 12))),
+    (&[(15, 1)], Some((22, 15))),
+    (&[(15, 1), (17, 1)], None),
+    (&[(15, 1), (16, 1)], None),
+    (&[(12, 1), (15, 1)], Some((22, 15))),
+    (&[(11, 1), (15, 1), (17, 1)], Some((22, 15))),
+    (&[(10, 2), (15, 1), (16, 1)], Some((22, 15))),
+    (&[(15, 1), (17, 2)], Some((2, 17))),
+    (&[(15, 1), (18, 0)], Some((22, 15))),
+    (&[(13, 0)], Some((23, 13))),
+    (&[(18, 0)], Some((23, 18))),
+    (&[(13, 255), (14, 255)], Some((1, 13))),
+    (&[(14, 128)], Some((1, 13))),
+    (&[(19, 128)], Some((1, 18))),
+    (&[(13, 0), (15, 3)], Some((23, 13))),
+    (&[(15, 0)], Some((21, 15))),
+    (&[(10, 2), (15, 1), (16, 2)], Some((2, 16))),
+    (&[(11, 1), (15, 1), (17, 2)], Some((2, 17))),
+    (&[(10, 2), (11, 1), (17, 1)], Some((3, 17))),
+    (&[(15, 1), (19, 128)], Some((22, 15))),
 ];
 
 fn change(file: &mut [u8], changes: &[Change]) {
-    for (position, byte) in changes {
-        if *position < file.len() {
-            file[*position] = *byte;
+    for &(position, byte) in changes {
+        if let Some(place) = file.get_mut(position) {
+            *place = byte;
         }
     }
 }

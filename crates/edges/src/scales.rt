@@ -1,14 +1,11 @@
 use grades::{
-    Cut, GradeMap, Scale, Thousandths, ThousandthsToWords, Words, WordsToThousandths, YesNo,
+    Cut, GradeMap, Refusal, Scale, Thousandths, ThousandthsToWords, Words, WordsToThousandths, YesNo,
 };
 use std::test::Fail;
 
 /// The code of the grade that a code leads to.
 fn back<S: Scale>(code: u16) -> Option<u16> {
-    match S::of_code(code) {
-        Some(grade) => Some(grade.code()),
-        None => None,
-    }
+    S::of_code(code).map(|grade| grade.code())
 }
 
 #[test]
@@ -45,20 +42,40 @@ fn above_a_thousand(rt: HostRuntime) {
 
 #[test]
 fn spans(rt: HostRuntime) -> Result<(), Fail> {
-    let numbers = [
-        0, 1, 199, 200, 399, 400, 600, 601, 800, 801, 999, 1000, 1001, 65535,
+    let words = [
+        (0, 0),
+        (1, 1),
+        (199, 1),
+        (200, 2),
+        (399, 2),
+        (400, 3),
+        (600, 3),
+        (601, 4),
+        (800, 4),
+        (801, 5),
+        (999, 5),
+        (1000, 6),
+        (1001, 6),
+        (65535, 6),
     ];
-    let words = [0, 1, 1, 2, 2, 3, 3, 4, 4, 5, 5, 6, 6, 6];
-    for (number, word) in numbers.iter().zip(words.iter()) {
+    for (number, word) in words {
         assert_eq!(rt;
-            ThousandthsToWords.image(Thousandths(*number)).code(),
-            *word
+            ThousandthsToWords.image(Thousandths(number)).code(),
+            word
         );
     }
-    let images = [0, 100, 300, 500, 700, 900, 1000];
-    for (code, image) in images.iter().enumerate() {
-        let word = Words::of_code(code as u16).ok_or("no word")?;
-        assert_eq!(rt; WordsToThousandths.image(word).code(), *image);
+    let images = [
+        (0, 0),
+        (1, 100),
+        (2, 300),
+        (3, 500),
+        (4, 700),
+        (5, 900),
+        (6, 1000),
+    ];
+    for (code, image) in images {
+        let word = Words::of_code(code).ok_or("no word")?;
+        assert_eq!(rt; WordsToThousandths.image(word).code(), image);
     }
     assert!(rt; ThousandthsToWords.keeps_opposites());
     assert!(rt; WordsToThousandths.keeps_opposites());
@@ -67,10 +84,8 @@ fn spans(rt: HostRuntime) -> Result<(), Fail> {
 
 #[test]
 fn cuts(rt: HostRuntime) -> Result<(), Fail> {
-    match Cut::at(Thousandths(0)) {
-        Ok(_) => return Err(Fail::new("a cut at the floor")),
-        Err(refusal) => assert_eq!(rt; refusal.number(), 6),
-    }
+    let refusal = Cut::at(Thousandths(0)).err().ok_or("a cut at the floor")?;
+    assert_eq!(rt; refusal.number(), 6);
     let lowest = Cut::at(Thousandths(1)).ok().ok_or("refused")?;
     assert_eq!(rt; lowest.image(Thousandths(0)).code(), 0);
     assert_eq!(rt; lowest.image(Thousandths(1)).code(), 1);

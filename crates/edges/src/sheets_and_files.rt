@@ -1,74 +1,63 @@
 use files::save;
-use grades::{Cut, Scale, Thousandths, ThousandthsToWords};
+use grades::{Cut, Refusal, Scale, Thousandths, ThousandthsToWords};
 use sheets::{Sheet, Size, Structure, Translated};
 use std::process::Abort;
 use std::test::Fail;
 
-/// The number of the refusal, or 0.
-fn refused(n: usize, m: usize, cells: usize) -> u8 {
-    match Size::new(n, m, cells) {
-        Ok(_) => 0,
-        Err(refusal) => refusal.number(),
+/// The number that a call is refused with.
+fn number<T: Drop, R: Refusal>(answer: Result<T, R>) -> Option<u8> {
+    match answer {
+        Ok(_) => None,
+        Err(refusal) => Some(refusal.number()),
     }
 }
 
-fn drawn(sheet: &mut Sheet<Thousandths>, from: usize, to: usize) -> u8 {
-    match sheet.draw(from, to, Thousandths(1)) {
-        Ok(()) => 0,
-        Err(refusal) => refusal.number(),
-    }
+fn refused(n: usize, m: usize, cells: usize) -> Option<u8> {
+    number(Size::new(n, m, cells))
 }
 
-fn marked(sheet: &mut Sheet<Thousandths>, state: usize, which: usize) -> u8 {
-    match sheet.mark(state, which, Thousandths(1)) {
-        Ok(()) => 0,
-        Err(refusal) => refusal.number(),
-    }
+fn drawn(sheet: &mut Sheet<Thousandths>, from: usize, to: usize) -> Option<u8> {
+    number(sheet.draw(from, to, Thousandths(1)))
 }
 
-/// Saving into the front of the memory: the length of the file, or the number of the refusal.
-fn saved<K: Structure>(structure: &mut K, out: &mut [u8], room: usize) -> Result<usize, u8> {
-    if room > out.len() {
-        return Err(0);
-    }
-    match save(structure, &mut out[0..room]) {
-        Ok(length) => Ok(length),
-        Err(refusal) => Err(refusal.number()),
-    }
+fn marked(sheet: &mut Sheet<Thousandths>, state: usize, which: usize) -> Option<u8> {
+    number(sheet.mark(state, which, Thousandths(1)))
 }
 
-/// What a draw and a mark are refused with over the front of the memory.
-fn over(size: Size, memory: &mut [Thousandths], length: usize) -> (u8, u8) {
-    if length > memory.len() {
-        return (0, 0);
-    }
-    let mut sheet = Sheet::new(size, &mut memory[0..length]);
+/// The length of the file, or the number of the refusal.
+fn saved<K: Structure>(structure: &mut K, out: &mut [u8]) -> Result<usize, u8> {
+    save(structure, out).map_err(|refusal| refusal.number())
+}
+
+/// What a draw and a mark are refused with over this memory.
+fn over(size: Size, memory: &mut [Thousandths]) -> (Option<u8>, Option<u8>) {
+    let mut sheet = Sheet::new(size, memory);
     (drawn(&mut sheet, 0, 0), marked(&mut sheet, 9, 9))
 }
 
 fn draw_all(rt: &impl Abort, sheet: &mut Sheet<Thousandths>) {
     for state in 0..64 {
         for to in 0..64 {
-            assert_eq!(rt; drawn(sheet, state, to), 0);
+            assert_eq!(rt; drawn(sheet, state, to), None);
         }
         for which in 0..16 {
-            assert_eq!(rt; marked(sheet, state, which), 0);
+            assert_eq!(rt; marked(sheet, state, which), None);
         }
     }
 }
 
 #[test]
 fn sizes(rt: HostRuntime) {
-    assert_eq!(rt; refused(0, 0, 0), 4);
-    assert_eq!(rt; refused(1, 0, 1), 0);
-    assert_eq!(rt; refused(64, 16, 5120), 0);
-    assert_eq!(rt; refused(65, 16, 5265), 4);
-    assert_eq!(rt; refused(64, 17, 5184), 4);
-    assert_eq!(rt; refused(usize::MAX, usize::MAX, 0), 4);
-    assert_eq!(rt; refused(3, 2, 14), 5);
-    assert_eq!(rt; refused(3, 2, 15), 0);
-    assert_eq!(rt; refused(3, 2, 16), 5);
-    assert_eq!(rt; refused(0, 17, 3), 4);
+    assert_eq!(rt; refused(0, 0, 0), Some(4));
+    assert_eq!(rt; refused(1, 0, 1), None);
+    assert_eq!(rt; refused(64, 16, 5120), None);
+    assert_eq!(rt; refused(65, 16, 5265), Some(4));
+    assert_eq!(rt; refused(64, 17, 5184), Some(4));
+    assert_eq!(rt; refused(usize::MAX, usize::MAX, 0), Some(4));
+    assert_eq!(rt; refused(3, 2, 14), Some(5));
+    assert_eq!(rt; refused(3, 2, 15), None);
+    assert_eq!(rt; refused(3, 2, 16), Some(5));
+    assert_eq!(rt; refused(0, 17, 3), Some(4));
 }
 
 #[test]
@@ -79,10 +68,10 @@ fn outside_the_numbers(rt: HostRuntime) -> Result<(), Fail> {
     };
     let mut sheet = Sheet::new(size, &mut memory);
     for at in [3, 64, usize::MAX] {
-        assert_eq!(rt; drawn(&mut sheet, at, 0), 2);
-        assert_eq!(rt; drawn(&mut sheet, 0, at), 2);
-        assert_eq!(rt; marked(&mut sheet, at, 2), 2);
-        assert_eq!(rt; marked(&mut sheet, 2, at), 3);
+        assert_eq!(rt; drawn(&mut sheet, at, 0), Some(2));
+        assert_eq!(rt; drawn(&mut sheet, 0, at), Some(2));
+        assert_eq!(rt; marked(&mut sheet, at, 2), Some(2));
+        assert_eq!(rt; marked(&mut sheet, 2, at), Some(3));
         assert_eq!(rt; sheet.step_grade(at, 0).code(), 0);
         assert_eq!(rt; sheet.step_grade(0, at).code(), 0);
         assert_eq!(rt; sheet.mark_grade(at, 0).code(), 0);
@@ -95,8 +84,8 @@ fn outside_the_numbers(rt: HostRuntime) -> Result<(), Fail> {
         assert_eq!(rt; sheet.mark_grade(from, 0).code(), 0);
         assert_eq!(rt; sheet.mark_grade(from, 1).code(), 0);
     }
-    assert_eq!(rt; drawn(&mut sheet, 2, 2), 0);
-    assert_eq!(rt; marked(&mut sheet, 2, 1), 0);
+    assert_eq!(rt; drawn(&mut sheet, 2, 2), None);
+    assert_eq!(rt; marked(&mut sheet, 2, 1), None);
     assert_eq!(rt; sheet.step_grade(2, 2).code(), 1);
     assert_eq!(rt; sheet.mark_grade(2, 1).code(), 1);
     Ok(())
@@ -108,10 +97,10 @@ fn memory_of_another_length(rt: HostRuntime) -> Result<(), Fail> {
     let Ok(size) = Size::new(3, 2, 15) else {
         return Err(Fail::new("refused"));
     };
-    assert_eq!(rt; over(size, &mut memory, 0), (5, 5));
-    assert_eq!(rt; over(size, &mut memory, 14), (5, 5));
-    assert_eq!(rt; over(size, &mut memory, 15), (0, 2));
-    assert_eq!(rt; over(size, &mut memory, 16), (5, 5));
+    assert_eq!(rt; over(size, &mut memory[0..0]), (Some(5), Some(5)));
+    assert_eq!(rt; over(size, &mut memory[0..14]), (Some(5), Some(5)));
+    assert_eq!(rt; over(size, &mut memory[0..15]), (None, Some(2)));
+    assert_eq!(rt; over(size, &mut memory[0..16]), (Some(5), Some(5)));
     Ok(())
 }
 
@@ -123,13 +112,13 @@ fn room_for_the_file(rt: HostRuntime) -> Result<(), Fail> {
     };
     let mut sheet = Sheet::new(size, &mut memory);
     let mut out = [9; 16];
-    assert_eq!(rt; saved(&mut sheet, &mut out, 9), Err(24));
+    assert_eq!(rt; saved(&mut sheet, &mut out[0..9]), Err(24));
     assert_eq!(rt; out, [9; 16]);
-    assert_eq!(rt; saved(&mut sheet, &mut out, 10), Ok(10));
+    assert_eq!(rt; saved(&mut sheet, &mut out[0..10]), Ok(10));
     assert_eq!(rt; out, [87, 83, 72, 1, 0, 1, 1, 0, 0, 0, 9, 9, 9, 9, 9, 9]);
     assert!(rt; sheet.draw(0, 0, Thousandths(1001)).is_ok());
-    assert_eq!(rt; saved(&mut sheet, &mut out, 14), Err(24));
-    assert_eq!(rt; saved(&mut sheet, &mut out, 15), Ok(15));
+    assert_eq!(rt; saved(&mut sheet, &mut out[0..14]), Err(24));
+    assert_eq!(rt; saved(&mut sheet, &mut out[0..15]), Ok(15));
     assert_eq!(rt; out, [87, 83, 72, 1, 0, 1, 1, 0, 1, 0, 1, 0, 0, 232, 3, 9]);
     Ok(())
 }
@@ -144,13 +133,13 @@ fn saved_on_each_scale(rt: HostRuntime) -> Result<(), Fail> {
     assert!(rt; sheet.mark(0, 0, Thousandths(700)).is_ok());
     let mut out = [0; 15];
     let mut words = Translated::new(sheet, ThousandthsToWords);
-    assert_eq!(rt; saved(&mut words, &mut out, 15), Ok(15));
+    assert_eq!(rt; saved(&mut words, &mut out[0..15]), Ok(15));
     assert_eq!(rt; out, [87, 83, 72, 1, 0, 2, 1, 1, 1, 0, 2, 0, 0, 4, 0]);
     let Ok(cut) = Cut::at(grades::Words::Even) else {
         return Err(Fail::new("refused"));
     };
     let mut answers = Translated::new(words, cut);
-    assert_eq!(rt; saved(&mut answers, &mut out, 15), Ok(15));
+    assert_eq!(rt; saved(&mut answers, &mut out[0..15]), Ok(15));
     assert_eq!(rt; out, [87, 83, 72, 1, 0, 3, 1, 1, 1, 0, 2, 0, 0, 1, 0]);
     Ok(())
 }
@@ -164,8 +153,8 @@ fn the_largest_file(rt: HostRuntime) -> Result<(), Fail> {
     let mut sheet = Sheet::new(size, &mut memory);
     draw_all(&rt, &mut sheet);
     let mut out = [0; 25610];
-    assert_eq!(rt; saved(&mut sheet, &mut out, 25609), Err(24));
-    assert_eq!(rt; saved(&mut sheet, &mut out, 25610), Ok(25610));
+    assert_eq!(rt; saved(&mut sheet, &mut out[0..25609]), Err(24));
+    assert_eq!(rt; saved(&mut sheet, &mut out[0..25610]), Ok(25610));
     assert_eq!(rt; out[8], 0);
     assert_eq!(rt; out[9], 20);
     let last = [out[25605], out[25606], out[25607], out[25608], out[25609]];

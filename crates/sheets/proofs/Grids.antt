@@ -1,4 +1,4 @@
--- Lemmas on sheets: the cells of the memory, and what one write changes.
+-- Lemmas on sheets: the cells of the memory, what is read of them, and what one write changes.
 use Rattle.std.proofs.Common.{◌≡◌, ℕ, zero, suc, ◌+◌, ◌*◌, ◌/◌, ◌%◌, ◌<◌, ◌≤◌, Bool, true, false, cond, ◌&&◌, eqb, ltb, ◌≢◌, List, [], ◌∷◌, map, length, get_or, set, sym, refl, ap, ◌∙◌, arith, get_or-set_other, get_or-set_same, below_more, ltb-true, lt-ltb, eqb-true}
 use borrow.Author.Tests.{eqb-false}
 use lib.Arith.{digits_lt, digits_div, digits_mod}
@@ -10,11 +10,16 @@ use Rattle.sheets.specs.declared.cell.Cell.{Cell}
 use Rattle.sheets.specs.declared.cell.Cell.TheVariants.{Step, Mark}
 use Rattle.sheets.specs.declared.size.Size.{Size}
 use Rattle.sheets.specs.Bounds.{grid, grid_within}
-use Rattle.sheets.specs.Cells.{is_inside, cell_index, with_level}
+use Rattle.sheets.specs.Cells.{is_inside, cell_index, level_at, with_level}
 use Rattle.sheets.specs.Sheets.{inside, sheet_tables, memory_tables, Whole}
 use Rattle.sheets.specs.Tables.{Tables, all_floor, updated}
 
 -- ---- levels of a list
+
+level_past : {S : Type 0} (level : S → ℕ) (xs : List S) (i : ℕ) → length xs ≤ i → get_or (map level xs) i 0 ≡ 0
+level_past level [] i h = refl
+level_past level (x ∷ xs) zero h = absurd (omega arith)
+level_past level (x ∷ xs) (suc i) h = level_past level xs i (omega arith)
 
 pub floor_more : {S : Type 0} (level : S → ℕ) (s : ℕ) (ws : List S) (x : S) → ((k : ℕ) → k < s → get_or (map level ws) k 0 ≡ 0) → s < length ws → level x ≡ 0 →
     (k : ℕ) → k < s + 1 → get_or (map level (set ws s x)) k 0 ≡ 0
@@ -105,6 +110,13 @@ module _ {S : Type 0} (s : scale.Ghosts S) (size : Size) (grades : List S) where
 
   abbrev xs : List ℕ
   xs = map s.level grades
+
+  -- a cell that the memory does not reach is at the floor
+  pub past_the_end : (cell : Cell) → is_inside size cell ≡ true → length grades ≤ cell_index size cell → level_at (memory_tables s size grades) cell ≡ 0
+  past_the_end (Step from to) has past =
+      let numbers = below from n to n has in grid_in xs n n (n + m) (λ t. t) from to numbers.0 numbers.1 ∙ level_past s.level grades (cell_index size (Step from to)) past
+  past_the_end (Mark state which) has past =
+      let numbers = below state n which m has in grid_in xs n m (n + m) (λ k. n + k) state which numbers.0 numbers.1 ∙ level_past s.level grades (cell_index size (Mark state which)) past
 
   -- one cell set in the memory of a whole sheet, and its tables afterwards
   pub set_cell : (cell : Cell) (at : ℕ) (g : S) → Whole size.states size.marks (length grades) → is_inside size cell ≡ true → at ≡ cell_index size cell →

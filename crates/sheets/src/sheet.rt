@@ -1,7 +1,7 @@
-ghost use Rattle.std.specs.Prelude.{◌≡◌, ℕ, ◌+◌, ◌*◌, true, map as mapped, length, MatchBool, MatchResult, slice_index};
+ghost use Rattle.std.specs.Prelude.{◌≡◌, ℕ, ◌+◌, ◌*◌, true, map as mapped, length, MatchResult, slice_index};
 ghost use Rattle.std.specs.Result.{result_err};
-ghost use Rattle.sheets.specs.Refusals.{is_whole, draw_refusal, mark_refusal};
-ghost use Rattle.sheets.specs.Sheets.{memory_tables, tables_of, Whole, IsWhole, Kept};
+ghost use Rattle.sheets.specs.Refusals.{draw_refusal, mark_refusal};
+ghost use Rattle.sheets.specs.Sheets.{size_of, memory_tables, tables_of, Whole, IsWhole, Kept};
 ghost use Rattle.sheets.specs.Bounds.{memory_bounded};
 ghost use Rattle.sheets.specs.Cells.{is_inside, level_at, with_level};
 ghost use Rattle.sheets.specs.Tables.{all_floor, with_step, with_mark};
@@ -10,19 +10,14 @@ use crate::cell::Cell;
 use crate::{DrawRefusal, MarkRefusal, Size, Structure};
 use grades::Scale;
 
-/// A sheet in lent memory. A cell past the end of the memory reads as the floor.
+/// A sheet in lent memory. Whatever it holds is lawful: a size outside the limits counts as the
+/// nearest limit, and a cell past the end of the memory reads as the floor.
+// no `Size` in it, which has a ghost field: with that beside the `&mut` it could be no type argument
 #[derive(Drop)]
 pub struct Sheet<'a, S: Scale> {
-    size: Size,
+    n: usize,
+    m: usize,
     grades: &'a mut [S],
-}
-
-/// Whether memory of so many cells is that of a sheet of this size.
-fn is_memory_of(size: Size, cells: usize) -> bool
-    ensures test { result ≡ is_whole size.states size.marks cells }
-    ensures cases { MatchBool result (Whole size.states size.marks cells) (Whole size.states size.marks cells → ⊥) }
-{
-    cells == size.cells()
 }
 
 /// Sets the grade of a cell in the memory of a whole sheet.
@@ -45,14 +40,24 @@ fn clear<S: Scale>(grades: &mut [S])
 }
 
 impl<'a, S: Scale> Sheet<'a, S> {
+    fn size(&self) -> Size
+        ensures { result ≡ size_of self.now.n self.now.m }
+    {
+        Size {
+            states: self.n.clamp(1, 64),
+            marks: self.m.min(16),
+        }
+    }
+
     /// The grade of a cell.
     fn read(&self, cell: Cell) -> S
         ensures { S.Scale.level result ≡ level_at (tables_of S.Scale self.now) cell }
     {
-        if !self.size.has(cell) {
+        let size = self.size();
+        if !size.has(cell) {
             return S::floor();
         }
-        match self.grades.get(self.size.index(cell)) {
+        match self.grades.get(size.index(cell)) {
             Some(grade) => *grade,
             None => S::floor(),
         }
@@ -60,7 +65,8 @@ impl<'a, S: Scale> Sheet<'a, S> {
 
     /// A sheet of a size that passed for memory of this length, every grade at the floor.
     pub fn new(size: Size, memory: &'a mut [S]) -> Sheet<'a, S>
-        ensures size { result.size ≡ size }
+        ensures n { result.n ≡ size.states }
+        ensures m { result.m ≡ size.marks }
         ensures length_same { length result.grades.now ≡ length memory.old }
         ensures memory_same { result.grades.ghost_name ≡ memory.entry.ghost_name }
         ensures whole { length memory.old ≡ size.states * (size.states + size.marks) → IsWhole result }
@@ -69,23 +75,23 @@ impl<'a, S: Scale> Sheet<'a, S> {
     {
         clear(memory);
         Sheet {
-            size,
+            n: size.states,
+            m: size.marks,
             grades: memory,
         }
     }
 
     /// Sets the grade of one step.
     pub fn draw(&mut self, from: usize, to: usize, grade: S) -> Result<(), DrawRefusal>
-        ensures refused { result_err result ≡ draw_refusal self.old.size.states self.old.size.marks (length self.old.grades.now) from to }
+        ensures refused { result_err result ≡ draw_refusal self.old.n self.old.m (length self.old.grades.now) from to }
         ensures kept { Kept self.old self.new }
         ensures drawn { MatchResult result
             (λ _. tables_of S.Scale self.new ≡ with_step (tables_of S.Scale self.old) from to (S.Scale.level grade))
             (λ _. self.new ≡ self.old) }
     {
-        let size = self.size;
-        if !is_memory_of(size, self.grades.len()) {
+        let Ok(size) = Size::new(self.n, self.m, self.grades.len()) else {
             return Err(DrawRefusal::Memory);
-        }
+        };
         if from >= size.states || to >= size.states {
             return Err(DrawRefusal::State);
         }
@@ -95,16 +101,15 @@ impl<'a, S: Scale> Sheet<'a, S> {
 
     /// Sets the grade of one mark in one state.
     pub fn mark(&mut self, state: usize, which: usize, grade: S) -> Result<(), MarkRefusal>
-        ensures refused { result_err result ≡ mark_refusal self.old.size.states self.old.size.marks (length self.old.grades.now) state which }
+        ensures refused { result_err result ≡ mark_refusal self.old.n self.old.m (length self.old.grades.now) state which }
         ensures kept { Kept self.old self.new }
         ensures marked { MatchResult result
             (λ _. tables_of S.Scale self.new ≡ with_mark (tables_of S.Scale self.old) state which (S.Scale.level grade))
             (λ _. self.new ≡ self.old) }
     {
-        let size = self.size;
-        if !is_memory_of(size, self.grades.len()) {
+        let Ok(size) = Size::new(self.n, self.m, self.grades.len()) else {
             return Err(MarkRefusal::Memory);
-        }
+        };
         if state >= size.states {
             return Err(MarkRefusal::State);
         }
@@ -121,14 +126,14 @@ impl<'a, S: Scale> Structure for Sheet<'a, S> {
 
     ghost tables = { tables_of S.Scale };
 
-    ghost bounded = { λ sheet. memory_bounded S.Scale.own S.Scale.within sheet.size sheet.grades.now };
+    ghost bounded = { λ sheet. memory_bounded S.Scale.own S.Scale.within (size_of sheet.n sheet.m) sheet.grades.now };
 
     fn states(&mut self) -> usize {
-        self.size.states
+        self.size().states
     }
 
     fn marks(&mut self) -> usize {
-        self.size.marks
+        self.size().marks
     }
 
     fn step_grade(&mut self, from: usize, to: usize) -> S {

@@ -5,8 +5,8 @@ use Rattle.bearing.proofs.draw_bearing.Goals as goal
 
 pub returns : goal.returns
 returns c =
-    let steps = c.in_default.ensures in
-    let marks = c.in_default-mark_states.ensures in
+    let steps = c.draw_steps.ensures in
+    let marks = c.mark_states.ensures in
     let tables = marks.tables refl ∙ ap (λ T. with_marks T bearing_marks) (steps.tables refl) in
     record {
       becomes = record { kept = kept_then steps.kept marks.kept; accepted = λ whole states few. refl; tables = λ ok. tables };
