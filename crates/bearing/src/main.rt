@@ -135,11 +135,11 @@ fn print_hex(rt: &impl Print, bytes: &[u8]) -> io::Result<()> {
 
 /// A line for the header, and one for each record.
 fn print_file(rt: &impl Print, file: &[u8]) -> io::Result<()> {
-    if file.len() < HEADER {
+    let Some((header, records)) = file.split_at_checked(HEADER) else {
         return print_hex(rt, file);
-    }
-    print_hex(rt, &file[0..HEADER])?;
-    for record in file[HEADER..].chunks(RECORD) {
+    };
+    print_hex(rt, header)?;
+    for record in records.chunks(RECORD) {
         print_hex(rt, record)?;
     }
     Ok(())

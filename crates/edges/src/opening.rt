@@ -267,23 +267,17 @@ fn the_bearing_file(rt: HostRuntime) {
 #[test]
 fn views_on_each_scale(rt: HostRuntime) -> Result<(), Fail> {
     let in_thousandths = small::<Thousandths>();
-    let Ok(mut thousandths) = ThousandthsView::open(&in_thousandths) else {
-        return Err(Fail::new("refused"));
-    };
+    let mut thousandths = ThousandthsView::open(&in_thousandths)?;
     assert_eq!(rt; codes_read(&mut thousandths), [1, 0, 0, 0, 1, 0]);
     outside(&rt, &mut thousandths);
     let in_words = small::<Words>();
-    let Ok(mut words) = WordsView::open(&in_words) else {
-        return Err(Fail::new("refused"));
-    };
+    let mut words = WordsView::open(&in_words)?;
     assert_eq!(rt; codes_read(&mut words), [1, 0, 0, 0, 1, 0]);
     outside(&rt, &mut words);
     let mut translated = Translated::new(words, WordsToThousandths);
     assert_eq!(rt; codes_read(&mut translated), [100, 0, 0, 0, 100, 0]);
     let in_yes_no = small::<YesNo>();
-    let Ok(mut yes_no) = YesNoView::open(&in_yes_no) else {
-        return Err(Fail::new("refused"));
-    };
+    let mut yes_no = YesNoView::open(&in_yes_no)?;
     assert_eq!(rt; codes_read(&mut yes_no), [1, 0, 0, 0, 1, 0]);
     outside(&rt, &mut yes_no);
     Ok(())
@@ -323,16 +317,12 @@ fn same_largest<K: Structure>(rt: &impl Abort, structure: &mut K) {
 #[test]
 fn the_largest_file_opens(rt: HostRuntime) -> Result<(), Fail> {
     let mut memory = [Thousandths(0); 5120];
-    let Ok(size) = Size::new(64, 16, 5120) else {
-        return Err(Fail::new("refused"));
-    };
+    let size = Size::new(64, 16, 5120)?;
     let mut sheet = Sheet::new(size, &mut memory);
     draw_largest(&rt, &mut sheet);
     let mut out = [0; 25615];
     assert!(rt; save(&mut sheet, &mut out).is_ok());
-    let Ok(mut view) = ThousandthsView::open(&out[0..25610]) else {
-        return Err(Fail::new("refused"));
-    };
+    let mut view = ThousandthsView::open(&out[0..25610])?;
     same_largest(&rt, &mut view);
     let mut again = [0; 25610];
     assert!(rt; save(&mut view, &mut again).is_ok());

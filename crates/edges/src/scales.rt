@@ -86,10 +86,10 @@ fn spans(rt: HostRuntime) -> Result<(), Fail> {
 fn cuts(rt: HostRuntime) -> Result<(), Fail> {
     let refusal = Cut::at(Thousandths(0)).err().ok_or("a cut at the floor")?;
     assert_eq!(rt; refusal.number(), 6);
-    let lowest = Cut::at(Thousandths(1)).ok().ok_or("refused")?;
+    let lowest = Cut::at(Thousandths(1))?;
     assert_eq!(rt; lowest.image(Thousandths(0)).code(), 0);
     assert_eq!(rt; lowest.image(Thousandths(1)).code(), 1);
-    let top = Cut::at(Thousandths(65535)).ok().ok_or("refused")?;
+    let top = Cut::at(Thousandths(65535))?;
     assert_eq!(rt; top.image(Thousandths(999)).code(), 0);
     assert_eq!(rt; top.image(Thousandths(1000)).code(), 1);
     assert!(rt; !top.keeps_opposites());

@@ -63,9 +63,7 @@ fn sizes(rt: HostRuntime) {
 #[test]
 fn outside_the_numbers(rt: HostRuntime) -> Result<(), Fail> {
     let mut memory = [Thousandths(7); 15];
-    let Ok(size) = Size::new(3, 2, 15) else {
-        return Err(Fail::new("refused"));
-    };
+    let size = Size::new(3, 2, 15)?;
     let mut sheet = Sheet::new(size, &mut memory);
     for at in [3, 64, usize::MAX] {
         assert_eq!(rt; drawn(&mut sheet, at, 0), Some(2));
@@ -94,9 +92,7 @@ fn outside_the_numbers(rt: HostRuntime) -> Result<(), Fail> {
 #[test]
 fn memory_of_another_length(rt: HostRuntime) -> Result<(), Fail> {
     let mut memory = [Thousandths(7); 16];
-    let Ok(size) = Size::new(3, 2, 15) else {
-        return Err(Fail::new("refused"));
-    };
+    let size = Size::new(3, 2, 15)?;
     assert_eq!(rt; over(size, &mut memory[0..0]), (Some(5), Some(5)));
     assert_eq!(rt; over(size, &mut memory[0..14]), (Some(5), Some(5)));
     assert_eq!(rt; over(size, &mut memory[0..15]), (None, Some(2)));
@@ -107,9 +103,7 @@ fn memory_of_another_length(rt: HostRuntime) -> Result<(), Fail> {
 #[test]
 fn room_for_the_file(rt: HostRuntime) -> Result<(), Fail> {
     let mut memory = [Thousandths(0); 1];
-    let Ok(size) = Size::new(1, 0, 1) else {
-        return Err(Fail::new("refused"));
-    };
+    let size = Size::new(1, 0, 1)?;
     let mut sheet = Sheet::new(size, &mut memory);
     let mut out = [9; 16];
     assert_eq!(rt; saved(&mut sheet, &mut out[0..9]), Err(24));
@@ -126,18 +120,14 @@ fn room_for_the_file(rt: HostRuntime) -> Result<(), Fail> {
 #[test]
 fn saved_on_each_scale(rt: HostRuntime) -> Result<(), Fail> {
     let mut memory = [Thousandths(0); 2];
-    let Ok(size) = Size::new(1, 1, 2) else {
-        return Err(Fail::new("refused"));
-    };
+    let size = Size::new(1, 1, 2)?;
     let mut sheet = Sheet::new(size, &mut memory);
     assert!(rt; sheet.mark(0, 0, Thousandths(700)).is_ok());
     let mut out = [0; 15];
     let mut words = Translated::new(sheet, ThousandthsToWords);
     assert_eq!(rt; saved(&mut words, &mut out[0..15]), Ok(15));
     assert_eq!(rt; out, [87, 83, 72, 1, 0, 2, 1, 1, 1, 0, 2, 0, 0, 4, 0]);
-    let Ok(cut) = Cut::at(grades::Words::Even) else {
-        return Err(Fail::new("refused"));
-    };
+    let cut = Cut::at(grades::Words::Even)?;
     let mut answers = Translated::new(words, cut);
     assert_eq!(rt; saved(&mut answers, &mut out[0..15]), Ok(15));
     assert_eq!(rt; out, [87, 83, 72, 1, 0, 3, 1, 1, 1, 0, 2, 0, 0, 1, 0]);
@@ -147,9 +137,7 @@ fn saved_on_each_scale(rt: HostRuntime) -> Result<(), Fail> {
 #[test]
 fn the_largest_file(rt: HostRuntime) -> Result<(), Fail> {
     let mut memory = [Thousandths(0); 5120];
-    let Ok(size) = Size::new(64, 16, 5120) else {
-        return Err(Fail::new("refused"));
-    };
+    let size = Size::new(64, 16, 5120)?;
     let mut sheet = Sheet::new(size, &mut memory);
     draw_all(&rt, &mut sheet);
     let mut out = [0; 25610];
