@@ -1,5 +1,6 @@
 use grades::{
-    Cut, GradeMap, Refusal, Scale, Thousandths, ThousandthsToWords, Words, WordsToThousandths, YesNo,
+    Cut, GradeMap, Refusal, Scale, Thousandths, ThousandthsToWords, Words, WordsToThousandths,
+    YesNo,
 };
 use std::test::Fail;
 
@@ -59,10 +60,7 @@ fn spans(rt: HostRuntime) -> Result<(), Fail> {
         (65535, 6),
     ];
     for (number, word) in words {
-        assert_eq!(rt;
-            ThousandthsToWords.image(Thousandths(number)).code(),
-            word
-        );
+        assert_eq!(rt; ThousandthsToWords.image(Thousandths(number)).code(), word);
     }
     let images = [
         (0, 0),
