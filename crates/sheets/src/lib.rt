@@ -1,6 +1,7 @@
 #![tactic(auto)]
 
 mod cell;
+mod drawing;
 mod refusal;
 mod sheet;
 mod size;

@@ -1,6 +1,6 @@
 use Rattle.std.proofs.Common.{◌<◌, length, arith, rules}
 use Rattle.sheets.proofs.Grids.{index_room, set_cell}
-use Rattle.sheets.proofs.sheet.put.Goals as goal
+use Rattle.sheets.proofs.drawing.put.Goals as goal
 
 pub offset_bounds-grades-index : goal.offset_bounds-grades-index
 offset_bounds-grades-index g c =
