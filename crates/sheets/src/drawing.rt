@@ -79,9 +79,10 @@ impl<'a, S: Scale> Sheet<'a, S> {
             (λ _. tables_of S.Scale self.new ≡ with_step (tables_of S.Scale self.old) from to (S.Scale.level grade))
             (λ _. self.new ≡ self.old) }
     {
-        let Ok(size) = Size::new(self.n, self.m, self.grades.len()) else {
+        let size = self.size();
+        if self.grades.len() != size.cells() {
             return Err(DrawRefusal::Memory);
-        };
+        }
         if from >= size.states || to >= size.states {
             return Err(DrawRefusal::State);
         }
@@ -97,9 +98,10 @@ impl<'a, S: Scale> Sheet<'a, S> {
             (λ _. tables_of S.Scale self.new ≡ with_mark (tables_of S.Scale self.old) state which (S.Scale.level grade))
             (λ _. self.new ≡ self.old) }
     {
-        let Ok(size) = Size::new(self.n, self.m, self.grades.len()) else {
+        let size = self.size();
+        if self.grades.len() != size.cells() {
             return Err(MarkRefusal::Memory);
-        };
+        }
         if state >= size.states {
             return Err(MarkRefusal::State);
         }
