@@ -1,6 +1,7 @@
 -- The bearing sheet, in thousandths: three states, and the marks a (0) and b (1).
-use Rattle.std.specs.Prelude.{◌≡◌, ℕ, true, List, [], ◌∷◌, is_ok, Result}
+use Rattle.std.specs.Prelude.{◌≡◌, ℕ, true, List, [], ◌∷◌, length, is_ok, Result}
 use Rattle.grades.specs.declared.scale.Scale as scale
+use Rattle.files.specs.Format.{table_records, file_length}
 use Rattle.sheets.specs.declared.sheet.Sheet.{Sheet}
 use Rattle.sheets.specs.Sheets.{IsWhole, Kept, tables_of}
 use Rattle.sheets.specs.Tables.{Tables, all_floor, with_step, with_mark}
@@ -29,3 +30,7 @@ pub record Becomes {S E : Type 0} (s : scale.Ghosts S) (change : Tables → Tabl
   pub kept : Kept before after
   pub accepted : IsWhole before → before.n ≡ 3 → before.m ≡ 2 → is_ok answer ≡ true
   pub tables : is_ok answer ≡ true → tables_of s after ≡ change (tables_of s before)
+
+-- the length of the file of these tables
+abbrev pub length_of : {S : Type 0} → scale.Ghosts S → Tables → ℕ
+length_of s T = file_length (length (table_records s T))

@@ -4,8 +4,7 @@
 ghost use Rattle.std.specs.Prelude.{◌≡◌, ◌<◌, true, length, is_ok, MatchOption};
 ghost use Rattle.sheets.specs.Sheets.{tables_of};
 ghost use Rattle.sheets.specs.Tables.{all_floor};
-ghost use Rattle.files.specs.Format.{table_records, file_length};
-ghost use Rattle.bearing.specs.Bearing.{Becomes, with_steps, with_marks, bearing_steps, bearing_marks, bearing};
+ghost use Rattle.bearing.specs.Bearing.{Becomes, with_steps, with_marks, bearing_steps, bearing_marks, bearing, length_of};
 
 use anyhow::anyhow;
 use files::{ThousandthsView, save};
@@ -75,14 +74,14 @@ fn save_and_open<'a>(
 ) -> Option<(usize, ThousandthsView<'a>)>
     ensures kept { sheet.new ≡ sheet.old }
     ensures opened { MatchOption result
-        (length out.old < file_length (length (table_records own_code (thousandths_of sheet.old))))
-        (λ opened. (opened.0 ≡ file_length (length (table_records own_code (thousandths_of sheet.old))))
-        × (thousandths_tables opened.1 ≡ thousandths_of sheet.old)) }
+        (length out.old < length_of ⟦<Thousandths as Scale>⟧ (tables_of ⟦<Thousandths as Scale>⟧ sheet.old))
+        (λ opened. (opened.0 ≡ length_of ⟦<Thousandths as Scale>⟧ (tables_of ⟦<Thousandths as Scale>⟧ sheet.old))
+        × (⟦<ThousandthsView<'a> as Structure>⟧.tables opened.1 ≡ tables_of ⟦<Thousandths as Scale>⟧ sheet.old)) }
 {
     let Ok(length) = save(sheet, out) else {
         return None;
     };
-    match ThousandthsView::open(&out[0..length]) {
+    match ThousandthsView::open(&out[..length]) {
         Ok(view) => Some((length, view)),
         Err(_) => None,
     }
