@@ -112,8 +112,13 @@ fn room_for_the_file(rt: HostRuntime) -> Result<(), Fail> {
     assert_eq!(rt; out, [87, 83, 72, 1, 0, 1, 1, 0, 0, 0, 9, 9, 9, 9, 9, 9]);
     assert!(rt; sheet.draw(0, 0, Thousandths(1001)).is_ok());
     assert_eq!(rt; saved(&mut sheet, &mut out[0..14]), Err(24));
-    assert_eq!(rt; saved(&mut sheet, &mut out[0..15]), Ok(15));
-    assert_eq!(rt; out, [87, 83, 72, 1, 0, 1, 1, 0, 1, 0, 1, 0, 0, 232, 3, 9]);
+    assert_eq!(rt; out, [87, 83, 72, 1, 0, 1, 1, 0, 0, 0, 9, 9, 9, 9, 9, 9]);
+    let mut again = [9; 16];
+    assert_eq!(rt; saved(&mut sheet, &mut again[0..15]), Ok(15));
+    assert_eq!(rt;
+        again,
+        [87, 83, 72, 1, 0, 1, 1, 0, 1, 0, 1, 0, 0, 232, 3, 9]
+    );
     Ok(())
 }
 
