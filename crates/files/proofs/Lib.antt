@@ -1,8 +1,6 @@
 pub mod Ascending
 pub mod Canonical
 pub mod Cells
-pub mod Checked
-pub mod Halving
 pub mod Keys
 pub mod Laws
 pub mod Lookups

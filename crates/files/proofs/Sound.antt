@@ -3,33 +3,20 @@ use Rattle.std.proofs.Common.{◌≡◌, ℕ, ◌<◌, ◌≤◌, Bool, true, fa
 use Rattle.std.proofs.lemmas.Bool.{or_cases}
 use Rattle.std.specs.Option.{option_map, option_or}
 use Rattle.grades.specs.Refusals.{needing}
+use Rattle.grades.specs.declared.scale.Scale as scale
 use Rattle.files.specs.declared.cell.Kind.{Kind}
 use Rattle.files.specs.declared.cell.Kind.TheVariants.{Step, Mark}
 use Rattle.files.specs.declared.entry.Entry.{Entry}
 use Rattle.files.specs.Entries.{two_bytes, states, marks, count, entries}
+use Rattle.files.specs.Bounds.{needed, neither, unmapped, Headed, is_headed}
 use Rattle.files.specs.Checks.{header_fault, grade_fault, second_limit, follows, record_fault, records_fault, file_fault}
 use Rattle.files.specs.Format.{kind_byte, file_length}
 use Rattle.sheets.specs.Tables.{Limits}
 
 -- ---- ladders without a refusal
 
-absent : {A : Type 0} {B : Type 0} (x : A) → ◌≡◌ {A = Option A} (Some x) None → B
-absent x e = let z : ◌≡◌ {A = ℕ} 0 1 = cc in absurd (omega arith)
-
-needed : {R : Type 0} (test : Bool) (refusal : R) (next : Option R) → needing test refusal next ≡ None → (test ≡ true) × (next ≡ None)
-needed true refusal next e = (refl, e)
-needed false refusal next e = absent refusal e
-
 pub meets : {R : Type 0} (test : Bool) (refusal : R) (next : Option R) → test ≡ true → next ≡ None → needing test refusal next ≡ None
 meets test refusal next t e = rw t e
-
-neither : {R : Type 0} (a b : Option R) → option_or a b ≡ None → (a ≡ None) × (b ≡ None)
-neither None b e = (refl, e)
-neither (Some x) b e = absent x e
-
-unmapped : {A B : Type 0} (f : A → B) (o : Option A) → option_map f o ≡ None → o ≡ None
-unmapped f None e = refl
-unmapped f (Some x) e = absent (f x) e
 
 -- ---- records
 
@@ -38,19 +25,19 @@ abbrev pub limit : (n m : ℕ) → Kind → ℕ
 limit n m Step = n
 limit n m Mark = m
 
-pub record Proper (decode : ℕ → Option ℕ) (n m : ℕ) (e : Entry) : Type 0 where
+pub record Proper {S : Type 0} (s : scale.Ghosts S) (n m : ℕ) (e : Entry) : Type 0 where
   pub kind : Kind
   pub kind_is : e.kind ≡ kind_byte kind
   pub first : e.first < n
   pub second : e.second < limit n m kind
   pub level : ℕ
-  pub level_is : decode e.code ≡ Some level
+  pub level_is : s.decode e.code ≡ Some level
   pub above : 0 < level
 
 -- each is proper, and follows the one before
-abbrev pub Sound : (decode : ℕ → Option ℕ) → (n m : ℕ) → (before : Option Entry) → List Entry → Type 0
-Sound decode n m before [] = Unit {0}
-Sound decode n m before (e ∷ es) = Proper decode n m e × (follows before e ≡ true) × Sound decode n m (Some e) es
+abbrev pub Sound : {S : Type 0} → scale.Ghosts S → (n m : ℕ) → (before : Option Entry) → List Entry → Type 0
+Sound s n m before [] = Unit {0}
+Sound s n m before (e ∷ es) = Proper s n m e × (follows before e ≡ true) × Sound s n m (Some e) es
 
 level_here : (o : Option ℕ) → is_some o ≡ true → 0 < unwrap_or o 0 → (p : ℕ) × (o ≡ Some p) × (0 < p)
 level_here None s h = let z : ◌≡◌ {A = ℕ} 0 1 = cc in absurd (omega arith)
@@ -63,17 +50,17 @@ kind_here n m kind second either h = by (or_cases (eqb kind 1) (eqb kind 2) eith
     by (inl e) = (Step, eqb-true kind 1 e, rw e at h)
     by (inr e) = let is : kind ≡ 2 = eqb-true kind 2 e in (Mark, is, rw is at h)
 
-module _ (decode : ℕ → Option ℕ) (n m : ℕ) where
-  is_proper : (before : Option Entry) (e : Entry) → record_fault decode n m before e ≡ None → Proper decode n m e × (follows before e ≡ true)
+module _ {S : Type 0} (s : scale.Ghosts S) (n m : ℕ) where
+  is_proper : (before : Option Entry) (e : Entry) → record_fault s n m before e ≡ None → Proper s n m e × (follows before e ≡ true)
   is_proper before e none =
       let a = needed _ _ _ none in
       let b = needed _ _ _ a.1 in
       let c = needed _ _ _ b.1 in
       let d = needed _ _ _ c.1 in
-      let f = needed _ _ _ (unmapped _ (grade_fault decode e.code) d.1) in
+      let f = needed _ _ _ (unmapped _ (grade_fault s e.code) d.1) in
       let h = needed _ _ _ f.1 in
       let kind = kind_here n m e.kind e.second a.0 (ltb-true _ _ c.0) in
-      let level = level_here (decode e.code) f.0 (ltb-true _ _ h.0) in (
+      let level = level_here (s.decode e.code) f.0 (ltb-true _ _ h.0) in (
         record {
           kind = kind.0;
           kind_is = kind.1;
@@ -86,10 +73,10 @@ module _ (decode : ℕ → Option ℕ) (n m : ℕ) where
         d.0,
       )
 
-  pub is_sound : (before : Option Entry) (es : List Entry) → records_fault decode n m before es ≡ None → Sound decode n m before es
+  pub is_sound : (before : Option Entry) (es : List Entry) → records_fault s n m before es ≡ None → Sound s n m before es
   is_sound before [] none = tt
   is_sound before (e ∷ es) none =
-      let both = neither (record_fault decode n m before e) (records_fault decode n m (Some e) es) none in
+      let both = neither (record_fault s n m before e) (records_fault s n m (Some e) es) none in
       let here = is_proper before e both.0 in
       (here.0, here.1, is_sound (Some e) es both.1)
 
@@ -101,10 +88,10 @@ module _ (decode : ℕ → Option ℕ) (n m : ℕ) where
   second_test kind second Step e h = rw e (lt-ltb second n h)
   second_test kind second Mark e h = rw e (lt-ltb second m h)
 
-  grade_passes : (code p : ℕ) → decode code ≡ Some p → 0 < p → grade_fault decode code ≡ None
+  grade_passes : (code p : ℕ) → s.decode code ≡ Some p → 0 < p → grade_fault s code ≡ None
   grade_passes code p is above = rw (is, lt-ltb 0 p above)
 
-  proper_passes : (before : Option Entry) (e : Entry) → Proper decode n m e → follows before e ≡ true → record_fault decode n m before e ≡ None
+  proper_passes : (before : Option Entry) (e : Entry) → Proper s n m e → follows before e ≡ true → record_fault s n m before e ≡ None
   proper_passes before e p f =
       meets _ _ _ (kind_test e.kind p.kind p.kind_is)
       (meets _ _ _ (lt-ltb e.first n p.first)
@@ -112,54 +99,18 @@ module _ (decode : ℕ → Option ℕ) (n m : ℕ) where
       (meets _ _ _ f
       (ap (option_map _) (grade_passes e.code p.level p.level_is p.above)))))
 
-  pub sound_passes : (before : Option Entry) (es : List Entry) → Sound decode n m before es → records_fault decode n m before es ≡ None
-  sound_passes before [] s = refl
-  sound_passes before (e ∷ es) s = rw (proper_passes before e s.0 s.1) (sound_passes (Some e) es s.2)
+  pub sound_passes : (before : Option Entry) (es : List Entry) → Sound s n m before es → records_fault s n m before es ≡ None
+  sound_passes before [] x = refl
+  sound_passes before (e ∷ es) x = rw (proper_passes before e x.0 x.1) (sound_passes (Some e) es x.2)
 
 -- ---- the header
 
-pub record Headed (number : ℕ) (bytes : List ℕ) : Type 0 where
-  pub long : 10 ≤ length bytes
-  pub w : get_or bytes 0 0 ≡ 87
-  pub s : get_or bytes 1 0 ≡ 83
-  pub h : get_or bytes 2 0 ≡ 72
-  pub version : two_bytes bytes 3 ≡ 1
-  pub scale : get_or bytes 5 0 ≡ number
-  pub limits : Limits (states bytes) (marks bytes)
-  pub few : count bytes ≤ 5120
-  pub whole : length bytes ≡ file_length (count bytes)
-
-is_headed : (number : ℕ) (bytes : List ℕ) → header_fault number bytes ≡ None → Headed number bytes
-is_headed number bytes none =
-    let a = needed _ _ _ none in
-    let b = needed _ _ _ a.1 in
-    let c = needed _ _ _ b.1 in
-    let d = needed _ _ _ c.1 in
-    let e = needed _ _ _ d.1 in
-    let f = needed _ _ _ e.1 in
-    let g = needed _ _ _ f.1 in
-    let h = needed _ _ _ g.1 in
-    let i = needed _ _ _ h.1 in
-    let j = needed _ _ _ i.1 in
-    let k = needed _ _ _ j.1 in
-    record {
-      long = leb-true _ _ a.0;
-      w = eqb-true _ _ b.0;
-      s = eqb-true _ _ c.0;
-      h = eqb-true _ _ d.0;
-      version = eqb-true _ _ e.0;
-      scale = eqb-true _ _ f.0;
-      limits = record { least = leb-true _ _ g.0; most = leb-true _ _ h.0; few = leb-true _ _ i.0 };
-      few = leb-true _ _ j.0;
-      whole = eqb-true _ _ k.0;
-    }
-
-headed_passes : (number : ℕ) (bytes : List ℕ) → Headed number bytes → header_fault number bytes ≡ None
-headed_passes number bytes x =
+headed_passes : {S : Type 0} (s : scale.Ghosts S) (bytes : List ℕ) → Headed s bytes → header_fault s bytes ≡ None
+headed_passes s bytes x =
     meets _ _ _ (le-leb _ _ x.long)
-    (meets _ _ _ (eq-eqb _ _ x.w)
-    (meets _ _ _ (eq-eqb _ _ x.s)
-    (meets _ _ _ (eq-eqb _ _ x.h)
+    (meets _ _ _ (eq-eqb _ _ x.letter_w)
+    (meets _ _ _ (eq-eqb _ _ x.letter_s)
+    (meets _ _ _ (eq-eqb _ _ x.letter_h)
     (meets _ _ _ (eq-eqb _ _ x.version)
     (meets _ _ _ (eq-eqb _ _ x.scale)
     (meets _ _ _ (le-leb _ _ x.limits.least)
@@ -170,11 +121,11 @@ headed_passes number bytes x =
 
 -- ---- the file
 
-module _ (number : ℕ) (decode : ℕ → Option ℕ) (bytes : List ℕ) where
-  pub faultless : file_fault number decode bytes ≡ None → Headed number bytes × Sound decode (states bytes) (marks bytes) None (entries bytes)
+module _ {S : Type 0} (s : scale.Ghosts S) (bytes : List ℕ) where
+  pub faultless : file_fault s bytes ≡ None → Headed s bytes × Sound s (states bytes) (marks bytes) None (entries bytes)
   faultless none =
-      let both = neither (option_map _ (header_fault number bytes)) (option_map _ (records_fault decode (states bytes) (marks bytes) None (entries bytes))) none in
-      (is_headed number bytes (unmapped _ _ both.0), is_sound decode (states bytes) (marks bytes) None (entries bytes) (unmapped _ _ both.1))
+      let both = neither (option_map _ (header_fault s bytes)) (option_map _ (records_fault s (states bytes) (marks bytes) None (entries bytes))) none in
+      (is_headed s bytes none, is_sound s (states bytes) (marks bytes) None (entries bytes) (unmapped _ _ both.1))
 
-  pub without_fault : Headed number bytes → Sound decode (states bytes) (marks bytes) None (entries bytes) → file_fault number decode bytes ≡ None
-  without_fault headed sound = rw (headed_passes number bytes headed, sound_passes decode (states bytes) (marks bytes) None (entries bytes) sound)
+  pub without_fault : Headed s bytes → Sound s (states bytes) (marks bytes) None (entries bytes) → file_fault s bytes ≡ None
+  without_fault headed sound = rw (headed_passes s bytes headed, sound_passes s (states bytes) (marks bytes) None (entries bytes) sound)

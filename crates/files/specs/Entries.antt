@@ -1,7 +1,9 @@
 -- The records of a file as its bytes are, whatever they are. What lies past the end reads as 0.
-use Rattle.std.specs.Prelude.{ℕ, zero, suc, ◌+◌, ◌*◌, Bool, true, false, cond, ◌&&◌, List, [], ◌∷◌, ◌==◌, nat_lt, slice_index}
+use Rattle.std.specs.Prelude.{ℕ, ◌+◌, ◌*◌, List, [], ◌∷◌, drop, Option, slice_get, slice_index}
+use Rattle.std.specs.Option.{option_map}
+use Rattle.std.specs.Simd.{first_chunks}
 use Rattle.files.specs.declared.entry.Entry.{Entry}
-use Rattle.files.specs.Format.{record_position}
+use Rattle.files.specs.Format.{Key}
 
 -- the number in two bytes, the low one first
 abbrev pub two_bytes : List ℕ → (position : ℕ) → ℕ
@@ -17,40 +19,31 @@ marks bytes = slice_index bytes 7
 abbrev pub count : List ℕ → ℕ
 count bytes = two_bytes bytes 8
 
--- the record of an index: kind, first number, second number, and the code in two bytes
-abbrev pub entry_at : List ℕ → (index : ℕ) → Entry
-entry_at bytes index = record {
+-- the records, five bytes each, after the ten of the header
+abbrev pub rows : List ℕ → List (List ℕ)
+rows bytes = first_chunks 5 (count bytes) (drop 10 bytes)
+
+-- a record's index and bytes: kind, first number, second number, and the code in two bytes
+abbrev pub entry_of : (index : ℕ) → List ℕ → Entry
+entry_of index row = record {
   index = index;
-  kind = slice_index bytes (record_position index);
-  first = slice_index bytes (record_position index + 1);
-  second = slice_index bytes (record_position index + 2);
-  code = two_bytes bytes (record_position index + 3);
+  kind = slice_index row 0;
+  first = slice_index row 1;
+  second = slice_index row 2;
+  code = two_bytes row 3;
 }
 
--- so many records, from an index on
-abbrev pub entries_from : List ℕ → (index many : ℕ) → List Entry
-entries_from bytes index zero = []
-entries_from bytes index (suc many) = entry_at bytes index ∷ entries_from bytes (index + 1) many
+-- records, counted from an index on
+abbrev pub entries_from : (index : ℕ) → List (List ℕ) → List Entry
+entries_from index [] = []
+entries_from index (row ∷ rows) = entry_of index row ∷ entries_from (index + 1) rows
 
 abbrev pub entries : List ℕ → List Entry
-entries bytes = entries_from bytes 0 (count bytes)
+entries bytes = entries_from 0 (rows bytes)
 
--- ---- their order
-
--- kind, first number and second number
-abbrev pub Key : Type 0
-Key = ℕ × ℕ × ℕ
+-- the code of the record of an index, or nothing after the last
+abbrev pub code_at : List ℕ → (index : ℕ) → Option ℕ
+code_at bytes index = option_map (λ row. two_bytes row 3) (slice_get (rows bytes) index)
 
 abbrev pub key : Entry → Key
 key e = (e.kind, e.first, e.second)
-
--- x is below y, or they are equal and the rest decides
-abbrev pub below_or : (x y : ℕ) → (rest : Bool) → Bool
-below_or x y rest = cond (nat_lt x y) true (cond (x == y) rest false)
-
--- by kind, then by first number, then by second number
-abbrev pub ascends : Key → Key → Bool
-ascends a b = below_or a.0 b.0 (below_or a.1 b.1 (nat_lt a.2 b.2))
-
-abbrev pub same_key : Key → Key → Bool
-same_key a b = a.0 == b.0 && (a.1 == b.1 && a.2 == b.2)

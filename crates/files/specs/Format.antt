@@ -1,6 +1,10 @@
 -- The sheet file: a header of ten bytes, and then a record of five bytes for each step and each mark above the floor.
-use Rattle.std.specs.Prelude.{◌≡◌, ℕ, zero, suc, ◌+◌, ◌*◌, ◌/◌, ◌%◌, ◌<◌, ◌≤◌, Bool, cond, ◌⊎◌, List, [], ◌∷◌, ◌++◌, map, length, drop, Some, None, filter, Option, ◌==◌, nat_lt}
-use Rattle.std.specs.List.{range_with_len, ContainsAt, AllByRecursion}
+use Rattle.std.specs.Prelude.{◌≡◌, ℕ, zero, suc, ◌+◌, ◌*◌, ◌/◌, ◌%◌, ◌<◌, ◌≤◌, Bool, cond, List, [], ◌∷◌, ◌++◌, map, length, drop, Some, None, filter, Option, nat_lt}
+use Rattle.std.specs.List.{range_with_len, Contains, All}
+use Rattle.std.specs.Ordering.{nat_cmp, ordering_then}
+use Rattle.std.specs.declared.cmp.Ordering.{Ordering}
+use Rattle.std.specs.declared.cmp.Ordering.TheVariants.{Less}
+use Rattle.grades.specs.declared.scale.Scale as scale
 use Rattle.files.specs.declared.cell.Kind.{Kind}
 use Rattle.files.specs.declared.cell.Kind.TheVariants.{Step, Mark}
 use Rattle.files.specs.declared.cell.Cell.{Cell}
@@ -38,25 +42,22 @@ abbrev pub above_floor : Tables → Cell → Bool
 above_floor T c = nat_lt 0 (level_at T c)
 
 -- a cell with the code of its level
-abbrev pub record_of : (code : ℕ → ℕ) → Tables → Cell → Record
-record_of code T c = record { cell = c; code = code (level_at T c) }
+abbrev pub record_of : {S : Type 0} → scale.Ghosts S → Tables → Cell → Record
+record_of s T c = record { cell = c; code = s.code (level_at T c) }
 
 -- a cell's record, or none where it is at the floor
-abbrev pub recorded : (code : ℕ → ℕ) → Tables → Cell → Option Record
-recorded code T c = cond (above_floor T c) (Some (record_of code T c)) None
+abbrev pub recorded : {S : Type 0} → scale.Ghosts S → Tables → Cell → Option Record
+recorded s T c = cond (above_floor T c) (Some (record_of s T c)) None
 
 -- the records of these cells, floors left out
-abbrev pub records_of : (code : ℕ → ℕ) → Tables → List Cell → List Record
-records_of code T cs = map (record_of code T) (filter (above_floor T) cs)
+abbrev pub records_of : {S : Type 0} → scale.Ghosts S → Tables → List Cell → List Record
+records_of s T cs = map (record_of s T) (filter (above_floor T) cs)
 
 -- ---- bytes
 
 abbrev pub kind_byte : Kind → ℕ
 kind_byte Step = 1
 kind_byte Mark = 2
-
-abbrev pub kind_of_byte : ℕ → Option Kind
-kind_of_byte byte = cond (byte == 1) (Some Step) (cond (byte == 2) (Some Mark) None)
 
 -- a number below 65,536 in two bytes, the low one first
 abbrev pub low_first : ℕ → List ℕ
@@ -70,16 +71,16 @@ bytes_of [] = []
 bytes_of (r ∷ rs) = record_bytes r ++ bytes_of rs
 
 -- the letters WSH, the version 1, the scale's number, the sizes, and how many records follow
-abbrev pub header : (number n m count : ℕ) → List ℕ
-header number n m count = 87 ∷ (83 ∷ (72 ∷ (low_first 1 ++ (number ∷ (n ∷ (m ∷ low_first count))))))
+abbrev pub header_bytes : (number n m count : ℕ) → List ℕ
+header_bytes number n m count = 87 ∷ (83 ∷ (72 ∷ (low_first 1 ++ (number ∷ (n ∷ (m ∷ low_first count))))))
 
 -- the records of these tables
-abbrev pub table_records : (code : ℕ → ℕ) → Tables → List Record
-table_records code T = records_of code T (cells T.states T.marks)
+abbrev pub table_records : {S : Type 0} → scale.Ghosts S → Tables → List Record
+table_records s T = records_of s T (cells T.states T.marks)
 
--- the file of these tables, on a scale of this number and these codes
-unfoldable pub file_of : (number : ℕ) → (code : ℕ → ℕ) → Tables → List ℕ
-file_of number code T = header number T.states T.marks (length (table_records code T)) ++ bytes_of (table_records code T)
+-- the file of these tables, on a scale
+unfoldable pub file_of : {S : Type 0} → scale.Ghosts S → Tables → List ℕ
+file_of s T = header_bytes s.number T.states T.marks (length (table_records s T)) ++ bytes_of (table_records s T)
 
 -- where the record of an index begins: after ten bytes of header, and five of each record before it
 abbrev pub record_position : (index : ℕ) → ℕ
@@ -89,37 +90,47 @@ record_position index = 10 + 5 * index
 abbrev pub file_length : (records : ℕ) → ℕ
 file_length records = 10 + 5 * records
 
--- ---- what the records are
+-- ---- the order of records
+
+-- kind, first number and second number
+abbrev pub Key : Type 0
+Key = ℕ × ℕ × ℕ
 
 -- by kind, then by first number, then by second number
+abbrev pub key_order : Key → Key → Ordering
+key_order a b = ordering_then (ordering_then (nat_cmp a.0 b.0) (nat_cmp a.1 b.1)) (nat_cmp a.2 b.2)
+
+abbrev pub cell_key : Cell → Key
+cell_key c = (kind_byte c.kind, c.first, c.second)
+
 abbrev pub Before : Cell → Cell → Type 0
-Before a b =
-    (kind_byte a.kind < kind_byte b.kind)
-    ⊎ ((a.kind ≡ b.kind) × ((a.first < b.first) ⊎ ((a.first ≡ b.first) × (a.second < b.second))))
+Before a b = key_order (cell_key a) (cell_key b) ≡ Less
 
 -- each record comes before all that follow it
 abbrev pub Ascend : List Record → Type 0
 Ascend [] = Unit {0}
-Ascend (r ∷ rs) = AllByRecursion (λ s. Before r.cell s.cell) rs × Ascend rs
+Ascend (r ∷ rs) = All (λ later. Before r.cell later.cell) rs × Ascend rs
+
+-- ---- what the records are
 
 -- the records ascend, and there is one for exactly the cells above the floor, each with the code of its level
-pub record Records (code : ℕ → ℕ) (T : Tables) (rs : List Record) : Type 0 where
+pub record Records {S : Type 0} (s : scale.Ghosts S) (T : Tables) (rs : List Record) : Type 0 where
   pub ascend : Ascend rs
-  pub above : AllByRecursion (λ r. (0 < level_at T r.cell) × (r.code ≡ code (level_at T r.cell))) rs
-  pub every : (c : Cell) → 0 < level_at T c → ContainsAt rs (record_of code T c)
+  pub above : All (λ r. (0 < level_at T r.cell) × (r.code ≡ s.code (level_at T r.cell))) rs
+  pub every : (c : Cell) → 0 < level_at T c → Contains rs (record_of s T c)
 
 -- the memory begins with the file, whose length is answered, and goes on as it was
-pub record Saved (number : ℕ) (code : ℕ → ℕ) (T : Tables) (before after : List ℕ) (answer : ℕ) : Type 0 where
-  pub records : Records code T (table_records code T)
-  pub few : length (table_records code T) ≤ 5120
-  pub sized : answer ≡ file_length (length (table_records code T))
-  pub whole : answer ≡ length (file_of number code T)
-  pub bytes : after ≡ file_of number code T ++ drop answer before
+pub record Saved {S : Type 0} (s : scale.Ghosts S) (T : Tables) (before after : List ℕ) (answer : ℕ) : Type 0 where
+  pub records : Records s T (table_records s T)
+  pub few : length (table_records s T) ≤ 5120
+  pub sized : answer ≡ file_length (length (table_records s T))
+  pub whole : answer ≡ length (file_of s T)
+  pub bytes : after ≡ file_of s T ++ drop answer before
 
 -- a level's code leads back to it, as a grade's does
-abbrev pub LeadsBack : (code : ℕ → ℕ) → (decode : ℕ → Option ℕ) → (level : ℕ) → Type 0
-LeadsBack code decode level = decode (code level) ≡ Some level
+abbrev pub LeadsBack : {S : Type 0} → scale.Ghosts S → (level : ℕ) → Type 0
+LeadsBack s level = s.decode (s.code level) ≡ Some level
 
 -- each level above the floor is that of a grade
-abbrev pub Graded : (code : ℕ → ℕ) → (decode : ℕ → Option ℕ) → Tables → Type 0
-Graded code decode T = (c : Cell) → 0 < level_at T c → LeadsBack code decode (level_at T c)
+abbrev pub Graded : {S : Type 0} → scale.Ghosts S → Tables → Type 0
+Graded s T = (c : Cell) → 0 < level_at T c → LeadsBack s (level_at T c)

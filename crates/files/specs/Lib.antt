@@ -1,3 +1,4 @@
+pub mod Bounds
 pub mod Checks
 pub mod Entries
 pub mod Faults
@@ -8,5 +9,3 @@ pub mod Progress
 pub mod Recorded
 pub mod Refusals
 pub mod Saving
-pub mod Search
-pub mod Views

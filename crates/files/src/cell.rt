@@ -1,34 +1,29 @@
 ghost use Rattle.std.specs.Prelude.{◌≡◌, ◌+◌, ◌*◌, ◌<◌};
-ghost use Rattle.files.specs.Format.{kind_byte, kind_of_byte, level_at, recorded, LeadsBack};
+ghost use Rattle.files.specs.Checks.{kind_of_byte};
+ghost use Rattle.files.specs.Format.{level_at, record_bytes, recorded, LeadsBack};
 ghost use Rattle.files.specs.Order.{cell_at};
 
+use crate::fault::RecordCause;
 use grades::Scale;
 use sheets::{Size, Structure};
 
 /// What a record is of: a step from a state to a state, or a mark in a state.
 #[derive(Clone, Copy)]
 pub(crate) enum Kind {
-    Step,
-    Mark,
+    Step = 1,
+    Mark = 2,
 }
 
-impl Kind {
-    pub(crate) fn of_byte(byte: u8) -> Option<Kind>
-        ensures { result ≡ kind_of_byte byte }
-    {
-        match byte {
-            1 => Some(Kind::Step),
-            2 => Some(Kind::Mark),
-            _ => None,
-        }
-    }
+impl TryFrom<u8> for Kind {
+    type Error = RecordCause;
 
-    pub(crate) fn byte(self) -> u8
-        ensures { result ≡ kind_byte self }
-    {
-        match self {
-            Kind::Step => 1,
-            Kind::Mark => 2,
+    ghost try_from_gives = { λ byte kind. kind ≡ kind_of_byte byte };
+
+    fn try_from(byte: u8) -> Result<Kind, RecordCause> {
+        match byte {
+            1 => Ok(Kind::Step),
+            2 => Ok(Kind::Mark),
+            _ => Err(RecordCause::Kind),
         }
     }
 }
@@ -44,6 +39,21 @@ pub(crate) struct Cell {
 pub(crate) struct Record {
     pub(crate) cell: Cell,
     pub(crate) code: u16,
+}
+
+impl Record {
+    pub(crate) fn to_bytes(self) -> [u8; 5]
+        ensures { result ≡ record_bytes self }
+    {
+        let [low, high] = self.code.to_le_bytes();
+        [
+            self.cell.kind as u8,
+            self.cell.first,
+            self.cell.second,
+            low,
+            high,
+        ]
+    }
 }
 
 /// The cell at an index, in the order of the file.
@@ -70,7 +80,7 @@ fn cell_at(size: Size, index: usize) -> Cell
 
 fn grade_at<K: Structure>(structure: &mut K, cell: Cell) -> K::Grade
     ensures value { K.Grade.Scale.level result ≡ level_at (K.Structure.tables structure.old) cell }
-    ensures graded { LeadsBack K.Grade.Scale.code K.Grade.Scale.decode (level_at (K.Structure.tables structure.old) cell) }
+    ensures graded { LeadsBack K.Grade.Scale (level_at (K.Structure.tables structure.old) cell) }
     ensures same { structure.new ≡ structure.old }
 {
     let first = cell.first as usize;
@@ -84,8 +94,8 @@ fn grade_at<K: Structure>(structure: &mut K, cell: Cell) -> K::Grade
 /// The record of the cell at an index, or nothing where that is at the floor.
 pub(crate) fn record_at<K: Structure>(structure: &mut K, size: Size, index: usize) -> Option<Record>
     requires { index < size.states * (size.states + size.marks) }
-    ensures value { result ≡ recorded K.Grade.Scale.code (K.Structure.tables structure.old) (cell_at size.states size.marks index) }
-    ensures graded { LeadsBack K.Grade.Scale.code K.Grade.Scale.decode (level_at (K.Structure.tables structure.old) (cell_at size.states size.marks index)) }
+    ensures value { result ≡ recorded K.Grade.Scale (K.Structure.tables structure.old) (cell_at size.states size.marks index) }
+    ensures graded { LeadsBack K.Grade.Scale (level_at (K.Structure.tables structure.old) (cell_at size.states size.marks index)) }
     ensures same { structure.new ≡ structure.old }
 {
     let cell = cell_at(size, index);

@@ -1,48 +1,64 @@
-ghost use Rattle.std.specs.Prelude.{◌≡◌, None};
+ghost use Rattle.std.specs.Prelude.{◌≡◌, ◌≤◌, length, OnOk, IfOk, None};
 ghost use Rattle.std.specs.Option.{option_map};
 ghost use Rattle.std.specs.Result.{result_err};
-ghost use Rattle.files.specs.Entries.{states, marks, entries};
-ghost use Rattle.files.specs.Checks.{header_fault, grade_fault, fault_at, record_fault, records_fault};
+ghost use Rattle.files.specs.Format.{file_length};
+ghost use Rattle.files.specs.Entries.{states, marks, count, entries_from};
+ghost use Rattle.files.specs.Checks.{header_fault, grade_fault, fault_at, record_fault, records_fault, file_fault};
 ghost use Rattle.files.specs.Opening.{Verdict};
 
 use crate::cell::Kind;
-use crate::entry::{
-    Entry, HEADER, MOST_MARKS, MOST_RECORDS, MOST_STATES, count_in, entry_at, marks_in, precedes,
-    record_position, states_in, u16_at,
-};
+use crate::entry::{Entry, record_position, rows};
 use crate::fault::{FileCause, FileFault, GradeFault, RecordCause, RecordFault};
 use grades::Scale;
 
-fn check_header<S: Scale>(bytes: &[u8]) -> Result<(), FileCause>
-    ensures { result_err result ≡ header_fault S.Scale.number bytes.now }
-{
-    if bytes.len() < HEADER || bytes[0] != b'W' || bytes[1] != b'S' || bytes[2] != b'H' {
-        return Err(FileCause::Letters);
+const MOST_STATES: u8 = 64;
+
+const MOST_MARKS: u8 = 16;
+
+const MOST_RECORDS: u16 = 5120;
+
+/// What a header says of its file.
+#[derive(Clone, Copy)]
+struct Header {
+    states: u8,
+    marks: u8,
+}
+
+impl Header {
+    /// Reads the header of a file for a scale.
+    fn parse<S: Scale>(bytes: &[u8]) -> Result<Header, FileCause>
+        ensures fault { result_err result ≡ header_fault S.Scale bytes.now }
+        ensures sizes { IfOk result (λ header. (header.states ≡ states bytes.now) × (header.marks ≡ marks bytes.now)) }
+        ensures whole { OnOk result (length bytes.now ≡ file_length (count bytes.now)) }
+        ensures few { OnOk result (count bytes.now ≤ 5120) }
+    {
+        let &[b'W', b'S', b'H', v0, v1, number, states, marks, k0, k1, ..] = bytes else {
+            return Err(FileCause::Letters);
+        };
+        if u16::from_le_bytes([v0, v1]) != 1 {
+            return Err(FileCause::Version);
+        }
+        if number != S::number() {
+            return Err(FileCause::Scale);
+        }
+        if states < 1 || states > MOST_STATES {
+            return Err(FileCause::States);
+        }
+        if marks > MOST_MARKS {
+            return Err(FileCause::Marks);
+        }
+        let count = u16::from_le_bytes([k0, k1]);
+        if count > MOST_RECORDS || bytes.len() != record_position(count) {
+            return Err(FileCause::Length);
+        }
+        Ok(Header { states, marks })
     }
-    if u16_at(bytes, 3) != 1 {
-        return Err(FileCause::Version);
-    }
-    if bytes[5] != S::number() {
-        return Err(FileCause::Scale);
-    }
-    let n = states_in(bytes);
-    if n < 1 || n > MOST_STATES {
-        return Err(FileCause::States);
-    }
-    if marks_in(bytes) > MOST_MARKS {
-        return Err(FileCause::Marks);
-    }
-    let count = count_in(bytes);
-    if count > MOST_RECORDS || bytes.len() != record_position(count) {
-        return Err(FileCause::Length);
-    }
-    Ok(())
 }
 
 impl Entry {
     /// Checks the code: a grade has it, and that is above the floor.
     fn check_grade<S: Scale>(self) -> Result<(), (u16, GradeFault)>
-        ensures { result_err result ≡ option_map (λ fault. (self.index, fault)) (grade_fault S.Scale.decode self.code) }
+        ensures { result_err result ≡ option_map (λ fault. (self.index, fault)) (grade_fault S.Scale self.code) }
     {
         match S::of_code(self.code) {
             None => Err((self.index, GradeFault::NoGrade(self.code))),
@@ -64,25 +80,23 @@ impl Entry {
         }
     }
 
-    /// Checks a record of a file of n states and m marks, after the one before it.
-    fn check<S: Scale>(self, n: u8, m: u8, before: Option<Entry>) -> Result<(), RecordFault>
-        ensures { result_err result ≡ record_fault S.Scale.decode n m before self }
+    /// Checks a record of a file with this header, after the record before it.
+    fn check<S: Scale>(self, header: Header, before: Option<Entry>) -> Result<(), RecordFault>
+        ensures { result_err result ≡ record_fault S.Scale header.states header.marks before self }
     {
-        let Some(kind) = Kind::of_byte(self.kind) else {
-            return Err(self.fault(RecordCause::Kind));
-        };
+        let kind = Kind::try_from(self.kind).map_err(|cause| self.fault(cause))?;
         let (limit, cause) = match kind {
-            Kind::Step => (n, RecordCause::SecondState),
-            Kind::Mark => (m, RecordCause::Mark),
+            Kind::Step => (header.states, RecordCause::SecondState),
+            Kind::Mark => (header.marks, RecordCause::Mark),
         };
-        if self.first >= n {
+        if self.first >= header.states {
             return Err(self.fault(RecordCause::FirstState));
         }
         if self.second >= limit {
             return Err(self.fault(cause));
         }
         if let Some(earlier) = before {
-            if !precedes(earlier.key(), self.key()) {
+            if earlier.key() >= self.key() {
                 return Err(self.fault(RecordCause::Order));
             }
         }
@@ -91,32 +105,38 @@ impl Entry {
     }
 }
 
-fn check_records<S: Scale>(bytes: &[u8]) -> Result<(), RecordFault>
-    ensures { result_err result ≡ records_fault S.Scale.decode (states bytes.now) (marks bytes.now) None (entries bytes.now) }
+fn check_records<S: Scale>(header: Header, rows: &[[u8; 5]]) -> Result<(), RecordFault>
+    requires { length rows.now ≤ 5120 }
+    ensures { result_err result ≡ records_fault S.Scale header.states header.marks None (entries_from 0 rows.now) }
 {
-    let n = states_in(bytes);
-    let m = marks_in(bytes);
     let mut before = None;
-    for index in 0..count_in(bytes) {
-        let entry = entry_at(bytes, index);
-        entry.check::<S>(n, m, before)?;
+    for (index, row) in rows.iter().enumerate() {
+        let entry = Entry::new(index as u16, row);
+        entry.check::<S>(header, before)?;
         before = Some(entry);
     }
     Ok(())
 }
 
 /// The header, and then the records.
-fn check_all<S: Scale>(bytes: &[u8]) -> Result<(), FileFault>
-    ensures { Verdict S.Scale.number S.Scale.height S.Scale.code S.Scale.decode bytes.now (result_err result) }
+fn find_fault<S: Scale>(bytes: &[u8]) -> Result<(), FileFault>
+    ensures { result_err result ≡ file_fault S.Scale bytes.now }
 {
-    check_header::<S>(bytes)?;
-    check_records::<S>(bytes)?;
+    let header = Header::parse::<S>(bytes)?;
+    check_records::<S>(header, rows(bytes))?;
     Ok(())
+}
+
+/// Passes the files without a fault.
+fn check_all<S: Scale>(bytes: &[u8]) -> Result<(), FileFault>
+    ensures { Verdict S.Scale bytes.now (result_err result) }
+{
+    find_fault::<S>(bytes)
 }
 
 /// Checks a file for a scale: passes it, or answers its first fault.
 pub fn check<S: Scale>(bytes: &[u8]) -> Result<(), FileFault>
-    ensures { Verdict S.Scale.number S.Scale.height S.Scale.code S.Scale.decode bytes.now (result_err result) }
+    ensures { Verdict S.Scale bytes.now (result_err result) }
 {
     check_all::<S>(bytes)
 }

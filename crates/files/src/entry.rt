@@ -1,6 +1,6 @@
-ghost use Rattle.std.specs.Prelude.{◌≡◌, ◌^◌, ◌<◌, slice_index};
-ghost use Rattle.files.specs.Format.{record_position};
-ghost use Rattle.files.specs.Entries.{two_bytes, states, marks, count, ascends, key, entry_at};
+ghost use Rattle.std.specs.Prelude.{◌≡◌, ◌≤◌, length};
+ghost use Rattle.files.specs.Format.{record_position, file_length};
+ghost use Rattle.files.specs.Entries.{count, rows, entry_of, key};
 
 /// The length of a header.
 pub(crate) const HEADER: usize = 10;
@@ -8,57 +8,25 @@ pub(crate) const HEADER: usize = 10;
 /// The length of a record.
 pub(crate) const RECORD: usize = 5;
 
-pub(crate) const MOST_STATES: u8 = 64;
-
-pub(crate) const MOST_MARKS: u8 = 16;
-
-pub(crate) const MOST_RECORDS: u16 = 5120;
-
-/// The byte at a position, or 0 past the end.
-fn byte_at(bytes: &[u8], at: usize) -> u8
-    ensures { result ≡ slice_index bytes.now at }
+/// Where the record of an index begins.
+pub(crate) fn record_position(index: u16) -> usize
+    ensures { result ≡ record_position index }
 {
-    if at < bytes.len() { bytes[at] } else { 0 }
+    HEADER + RECORD * index as usize
 }
 
-/// The number in two bytes, the low one first.
-pub(crate) fn u16_at(bytes: &[u8], at: usize) -> u16
-    requires { at < 2 ^ 32 }
-    ensures { result ≡ two_bytes bytes.now at }
+/// The records after the header, as their bytes are.
+pub(crate) fn rows(bytes: &[u8]) -> &[[u8; 5]]
+    requires { length bytes.now ≡ file_length (count bytes.now) }
+    ensures value { result.now ≡ rows bytes.now }
+    ensures many { length result.now ≡ count bytes.now }
 {
-    u16::from_le_bytes([byte_at(bytes, at), byte_at(bytes, at + 1)])
-}
-
-/// The states that a header announces.
-pub(crate) fn states_in(bytes: &[u8]) -> u8
-    ensures { result ≡ states bytes.now }
-{
-    byte_at(bytes, 6)
-}
-
-/// The marks that a header announces.
-pub(crate) fn marks_in(bytes: &[u8]) -> u8
-    ensures { result ≡ marks bytes.now }
-{
-    byte_at(bytes, 7)
-}
-
-/// How many records a header announces.
-pub(crate) fn count_in(bytes: &[u8]) -> u16
-    ensures { result ≡ count bytes.now }
-{
-    u16_at(bytes, 8)
+    let (rows, _) = bytes[HEADER..].as_chunks();
+    rows
 }
 
 /// By which records are ordered: kind, first number, second number.
 pub(crate) type Key = (u8, u8, u8);
-
-/// Whether a record of one key comes before one of another.
-pub(crate) fn precedes(a: Key, b: Key) -> bool
-    ensures { result ≡ ascends a b }
-{
-    a < b
-}
 
 /// A record as its bytes are, with its index.
 #[derive(Clone, Copy)]
@@ -70,28 +38,20 @@ pub(crate) struct Entry {
     pub(crate) code: u16,
 }
 
-/// Where the record of an index begins.
-pub(crate) fn record_position(index: u16) -> usize
-    ensures { result ≡ record_position index }
-{
-    HEADER + RECORD * index as usize
-}
-
-/// The record of an index; what lies past the end reads as 0.
-pub(crate) fn entry_at(bytes: &[u8], index: u16) -> Entry
-    ensures { result ≡ entry_at bytes.now index }
-{
-    let at = record_position(index);
-    Entry {
-        index,
-        kind: byte_at(bytes, at),
-        first: byte_at(bytes, at + 1),
-        second: byte_at(bytes, at + 2),
-        code: u16_at(bytes, at + 3),
-    }
-}
-
 impl Entry {
+    pub(crate) fn new(index: u16, row: &[u8; 5]) -> Entry
+        ensures { result ≡ entry_of index row.now }
+    {
+        let &[kind, first, second, low, high] = row;
+        Entry {
+            index,
+            kind,
+            first,
+            second,
+            code: u16::from_le_bytes([low, high]),
+        }
+    }
+
     pub(crate) fn key(self) -> Key
         ensures { result ≡ key self }
     {

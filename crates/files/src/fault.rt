@@ -2,9 +2,10 @@ ghost use Rattle.std.specs.Prelude.{◌≡◌};
 ghost use Rattle.files.specs.Faults.{grade_number, record_answer, file_answer, in_record, in_file, of_record};
 
 use crate::entry::record_position;
+use grades::Refusal;
 
 /// What is wrong with the code of a record.
-#[derive(Clone, Copy, Debug)]
+#[derive(Clone, Copy, Debug, PartialEq, Eq)]
 pub enum GradeFault {
     /// no grade of the scale has this code
     NoGrade(u16),
@@ -13,7 +14,7 @@ pub enum GradeFault {
 }
 
 /// What is wrong with a record.
-#[derive(Clone, Copy, Debug)]
+#[derive(Clone, Copy, Debug, PartialEq, Eq)]
 pub enum RecordCause {
     /// the kind is neither 1 nor 2
     Kind,
@@ -30,14 +31,14 @@ pub enum RecordCause {
 }
 
 /// The first fault of a record, with the record's index from 0.
-#[derive(Clone, Copy, Debug)]
+#[derive(Clone, Copy, Debug, PartialEq, Eq)]
 pub struct RecordFault {
     pub index: u16,
     pub cause: RecordCause,
 }
 
 /// What is wrong with a file.
-#[derive(Clone, Copy, Debug)]
+#[derive(Clone, Copy, Debug, PartialEq, Eq)]
 pub enum FileCause {
     /// fewer than ten bytes, or other letters than WSH
     Letters,
@@ -56,16 +57,16 @@ pub enum FileCause {
 }
 
 /// The first fault of a file, with the position of the field that is at fault.
-#[derive(Clone, Copy, Debug)]
+#[derive(Clone, Copy, Debug, PartialEq, Eq)]
 pub struct FileFault {
     pub position: usize,
     pub cause: FileCause,
 }
 
-impl GradeFault {
-    pub fn number(self) -> u8
-        ensures { result ≡ grade_number self }
-    {
+impl Refusal for GradeFault {
+    ghost number = { grade_number };
+
+    fn number(self) -> u8 {
         match self {
             GradeFault::NoGrade(_) => 1,
             GradeFault::Floor(_) => 23,
@@ -73,10 +74,10 @@ impl GradeFault {
     }
 }
 
-impl RecordFault {
-    pub fn number(self) -> u8
-        ensures { result ≡ (record_answer self.cause).number }
-    {
+impl Refusal for RecordFault {
+    ghost number = { λ fault. (record_answer fault.cause).number };
+
+    fn number(self) -> u8 {
         match self.cause {
             RecordCause::Kind => 21,
             RecordCause::FirstState | RecordCause::SecondState => 2,
@@ -87,10 +88,10 @@ impl RecordFault {
     }
 }
 
-impl FileFault {
-    pub fn number(self) -> u8
-        ensures { result ≡ (file_answer self.cause).number }
-    {
+impl Refusal for FileFault {
+    ghost number = { λ fault. (file_answer fault.cause).number };
+
+    fn number(self) -> u8 {
         match self.cause {
             FileCause::Letters => 17,
             FileCause::Version => 18,

@@ -4,7 +4,6 @@ mod cell;
 mod checking;
 mod entry;
 mod fault;
-mod lookup;
 mod saving;
 mod view;
 

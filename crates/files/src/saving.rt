@@ -1,27 +1,27 @@
 ghost use Rattle.std.specs.Prelude.{◌≡◌, ◌+◌, ◌*◌, ◌≤◌, ◌++◌, length, drop, MatchResult};
 ghost use Rattle.std.proofs.lemmas.List.Edits.{sets};
 ghost use Rattle.std.specs.Result.{result_err};
-ghost use Rattle.files.specs.Format.{cells, records_of, record_bytes, bytes_of, header, table_records, file_of, file_length, Saved};
+ghost use Rattle.files.specs.Format.{cells, records_of, record_bytes, bytes_of, header_bytes, table_records, file_of, file_length, Saved};
 ghost use Rattle.files.specs.Progress.{Planned, GradedTo};
 ghost use Rattle.files.specs.Saving.{Storable};
 ghost use Rattle.files.specs.Refusals.{save_number, save_refusal};
 
 use crate::cell::{Record, record_at};
 use crate::entry::{HEADER, RECORD};
-use grades::Scale;
+use grades::{Refusal, Scale};
 use sheets::{Size, Structure};
 
 /// Why a structure is not saved.
-#[derive(Clone, Copy, Debug)]
+#[derive(Clone, Copy, Debug, PartialEq, Eq)]
 pub enum SaveRefusal {
     /// the memory is shorter than the file
     Memory,
 }
 
-impl SaveRefusal {
-    pub fn number(self) -> u8
-        ensures { result ≡ save_number self }
-    {
+impl Refusal for SaveRefusal {
+    ghost number = { save_number };
+
+    fn number(self) -> u8 {
         match self {
             SaveRefusal::Memory => 24,
         }
@@ -37,38 +37,26 @@ struct Plan {
 
 fn put_header(out: &mut [u8], number: u8, size: Size, count: u16)
     requires { 10 ≤ length out.old }
-    ensures { out.new ≡ sets out.old 0 (header number size.states size.marks count) }
+    ensures { out.new ≡ sets out.old 0 (header_bytes number size.states size.marks count) }
 {
-    let [version_low, version_high] = 1u16.to_le_bytes();
-    let [count_low, count_high] = count.to_le_bytes();
-    out[0] = b'W';
-    out[1] = b'S';
-    out[2] = b'H';
-    out[3] = version_low;
-    out[4] = version_high;
-    out[5] = number;
-    out[6] = size.states() as u8;
-    out[7] = size.marks() as u8;
-    out[8] = count_low;
-    out[9] = count_high;
+    let [v0, v1] = 1u16.to_le_bytes();
+    let [k0, k1] = count.to_le_bytes();
+    let n = size.states() as u8;
+    let m = size.marks() as u8;
+    out[..HEADER].copy_from_slice(&[b'W', b'S', b'H', v0, v1, number, n, m, k0, k1]);
 }
 
 fn put_record(out: &mut [u8], at: usize, entry: Record)
     requires { at + 5 ≤ length out.old }
     ensures { out.new ≡ sets out.old at (record_bytes entry) }
 {
-    let [low, high] = entry.code.to_le_bytes();
-    out[at] = entry.cell.kind.byte();
-    out[at + 1] = entry.cell.first;
-    out[at + 2] = entry.cell.second;
-    out[at + 3] = low;
-    out[at + 4] = high;
+    out[at..at + RECORD].copy_from_slice(&entry.to_bytes());
 }
 
 fn count_records<K: Structure>(structure: &mut K, size: Size) -> usize
-    ensures value { result ≡ length (records_of K.Grade.Scale.code (K.Structure.tables structure.old) (cells size.states size.marks)) }
+    ensures value { result ≡ length (records_of K.Grade.Scale (K.Structure.tables structure.old) (cells size.states size.marks)) }
     ensures most { result ≤ size.states * (size.states + size.marks) }
-    ensures graded { GradedTo K.Grade.Scale.code K.Grade.Scale.decode (K.Structure.tables structure.old) size.states size.marks (size.states * (size.states + size.marks)) }
+    ensures graded { GradedTo K.Grade.Scale (K.Structure.tables structure.old) size.states size.marks (size.states * (size.states + size.marks)) }
     ensures same { structure.new ≡ structure.old }
 {
     let mut count = 0;
@@ -82,8 +70,8 @@ fn count_records<K: Structure>(structure: &mut K, size: Size) -> usize
 
 /// Writes the records after the header.
 fn put_records<K: Structure>(structure: &mut K, size: Size, out: &mut [u8])
-    requires { file_length (length (records_of K.Grade.Scale.code (K.Structure.tables structure.old) (cells size.states size.marks))) ≤ length out.old }
-    ensures written { out.new ≡ sets out.old 10 (bytes_of (records_of K.Grade.Scale.code (K.Structure.tables structure.old) (cells size.states size.marks))) }
+    requires { file_length (length (records_of K.Grade.Scale (K.Structure.tables structure.old) (cells size.states size.marks))) ≤ length out.old }
+    ensures written { out.new ≡ sets out.old 10 (bytes_of (records_of K.Grade.Scale (K.Structure.tables structure.old) (cells size.states size.marks))) }
     ensures same { structure.new ≡ structure.old }
 {
     let mut at = HEADER;
@@ -97,8 +85,8 @@ fn put_records<K: Structure>(structure: &mut K, size: Size, out: &mut [u8])
 
 /// The size of a structure, and how many records its file has.
 fn plan_of<K: Structure>(structure: &mut K) -> Plan
-    ensures planned { Planned K.Grade.Scale.number K.Grade.Scale.code (K.Structure.tables structure.old) result }
-    ensures storable { Storable K.Grade.Scale.number K.Grade.Scale.height K.Grade.Scale.code K.Grade.Scale.decode (K.Structure.tables structure.old) (length (table_records K.Grade.Scale.code (K.Structure.tables structure.old))) }
+    ensures planned { Planned K.Grade.Scale (K.Structure.tables structure.old) result }
+    ensures storable { Storable K.Grade.Scale (K.Structure.tables structure.old) (length (table_records K.Grade.Scale (K.Structure.tables structure.old))) }
     ensures same { structure.new ≡ structure.old }
 {
     let size = Size::of(structure);
@@ -107,9 +95,9 @@ fn plan_of<K: Structure>(structure: &mut K) -> Plan
 }
 
 fn put_file<K: Structure>(structure: &mut K, plan: Plan, out: &mut [u8])
-    requires planned { Planned K.Grade.Scale.number K.Grade.Scale.code (K.Structure.tables structure.old) plan }
+    requires planned { Planned K.Grade.Scale (K.Structure.tables structure.old) plan }
     requires room { file_length plan.count ≤ length out.old }
-    ensures written { out.new ≡ file_of K.Grade.Scale.number K.Grade.Scale.code (K.Structure.tables structure.old) ++ drop (file_length plan.count) out.old }
+    ensures written { out.new ≡ file_of K.Grade.Scale (K.Structure.tables structure.old) ++ drop (file_length plan.count) out.old }
     ensures same { structure.new ≡ structure.old }
 {
     put_header(
@@ -123,11 +111,11 @@ fn put_file<K: Structure>(structure: &mut K, plan: Plan, out: &mut [u8])
 
 /// Writes the file of a structure's tables, and answers its length.
 pub fn save<K: Structure>(structure: &mut K, out: &mut [u8]) -> Result<usize, SaveRefusal>
-    ensures refused { result_err result ≡ save_refusal (length (table_records K.Grade.Scale.code (K.Structure.tables structure.old))) (length out.old) }
+    ensures refused { result_err result ≡ save_refusal (length (table_records K.Grade.Scale (K.Structure.tables structure.old))) (length out.old) }
     ensures saved { MatchResult result
-        (λ answer. Saved K.Grade.Scale.number K.Grade.Scale.code (K.Structure.tables structure.old) out.old out.new answer)
+        (λ answer. Saved K.Grade.Scale (K.Structure.tables structure.old) out.old out.new answer)
         (λ _. out.new ≡ out.old) }
-    ensures storable { Storable K.Grade.Scale.number K.Grade.Scale.height K.Grade.Scale.code K.Grade.Scale.decode (K.Structure.tables structure.old) (length (table_records K.Grade.Scale.code (K.Structure.tables structure.old))) }
+    ensures storable { Storable K.Grade.Scale (K.Structure.tables structure.old) (length (table_records K.Grade.Scale (K.Structure.tables structure.old))) }
     ensures same { structure.new ≡ structure.old }
 {
     let plan = plan_of(structure);

@@ -1,127 +1,251 @@
-ghost use Rattle.std.specs.Prelude.{IfOk};
+ghost use Rattle.std.specs.Prelude.{◌≡◌, ⊤, IfOk, MatchResult, None};
 ghost use Rattle.std.specs.Result.{result_err};
-ghost use Rattle.grades.specs.Levels.{own_code, level_of_code};
+ghost use Rattle.files.specs.Bounds.{own_code_within, file_bounded};
+ghost use Rattle.files.specs.Checks.{file_fault};
+ghost use Rattle.files.specs.Entries.{states, marks, code_at, entries};
 ghost use Rattle.files.specs.Opening.{Opened, Verdict};
-ghost use Rattle.files.specs.Views.{thousandths_tables, words_tables, yes_no_tables};
+ghost use Rattle.files.specs.Recorded.{code_of, level_found, file_tables};
+ghost use Rattle.std.proofs.Props.{props};
 
+use crate::cell::Kind;
+use crate::checking::check;
+use crate::entry::{Key, rows};
 use crate::fault::FileFault;
-use crate::lookup::{pass, read_mark, read_marks, read_states, read_step};
-use grades::{Thousandths, Words, YesNo};
+use grades::{Scale, Thousandths, Words, YesNo};
 use sheets::Structure;
+use std::alloc::AllocError;
+use std::marker::PhantomData;
+
+/// A file for a scale that has no fault, read where it lies.
+struct OpenFile<'a, S: Scale> {
+    bytes: &'a [u8],
+    scale: PhantomData<S>,
+    ghost passed: { file_fault S.Scale bytes.now ≡ None } by { Prim.hlevel props },
+}
+
+impl<'a, S: Scale> Clone for OpenFile<'a, S> {
+    ghost is_clone = { λ file copy. copy ≡ file };
+
+    ghost is_infallible = { λ _. ⊤ };
+
+    fn clone(&self) -> Result<OpenFile<'a, S>, AllocError> {
+        Ok(*self)
+    }
+}
+
+impl<'a, S: Scale> Copy for OpenFile<'a, S> {}
+
+impl<'a, S: Scale> OpenFile<'a, S> {
+    fn open(bytes: &'a [u8]) -> Result<OpenFile<'a, S>, FileFault>
+        ensures verdict { Verdict S.Scale bytes.now (result_err result) }
+        ensures opened { IfOk result (λ file. Opened S.Scale bytes.now (file_tables S.Scale file.bytes.now)) }
+    {
+        check::<S>(bytes)?;
+        Ok(OpenFile {
+            bytes,
+            scale: PhantomData,
+        })
+    }
+
+    fn states(&self) -> usize
+        ensures { result ≡ states self.now.bytes.now }
+    {
+        usize::from(self.bytes[6])
+    }
+
+    fn marks(&self) -> usize
+        ensures { result ≡ marks self.now.bytes.now }
+    {
+        usize::from(self.bytes[7])
+    }
+
+    /// Where the record with a key is, or would be.
+    fn search(&self, wanted: Key) -> Result<usize, usize>
+        ensures { MatchResult result
+            (λ index. code_of (entries self.now.bytes.now) wanted ≡ code_at self.now.bytes.now index)
+            (λ _. code_of (entries self.now.bytes.now) wanted ≡ None) }
+    {
+        rows(self.bytes).binary_search_by_key(
+            &wanted,
+            |&[kind, first, second, _, _]| (kind, first, second),
+        )
+    }
+
+    /// The code of the record at an index.
+    fn code_at(&self, index: usize) -> Option<u16>
+        ensures { result ≡ code_at self.now.bytes.now index }
+    {
+        let &[_, _, _, low, high] = rows(self.bytes).get(index)?;
+        Some(u16::from_le_bytes([low, high]))
+    }
+
+    /// The code that is recorded under a key, or nothing.
+    fn find(&self, wanted: Key) -> Option<u16>
+        ensures { result ≡ code_of (entries self.now.bytes.now) wanted }
+    {
+        match self.search(wanted) {
+            Ok(index) => self.code_at(index),
+            Err(_) => None,
+        }
+    }
+
+    /// The grade that is recorded under a key, or the floor.
+    fn grade(&self, wanted: Key) -> S
+        ensures { S.Scale.level result ≡ level_found S.Scale (code_of (entries self.now.bytes.now) wanted) }
+    {
+        let Some(code) = self.find(wanted) else {
+            return S::floor();
+        };
+        match S::of_code(code) {
+            Some(grade) => grade,
+            None => S::floor(),
+        }
+    }
+
+    fn step(&self, from: usize, to: usize) -> S
+        ensures { S.Scale.level result ≡ (file_tables S.Scale self.now.bytes.now).step from to }
+    {
+        let n = self.states();
+        if from >= n || to >= n {
+            return S::floor();
+        }
+        self.grade((Kind::Step as u8, from as u8, to as u8))
+    }
+
+    fn mark(&self, state: usize, which: usize) -> S
+        ensures { S.Scale.level result ≡ (file_tables S.Scale self.now.bytes.now).mark state which }
+    {
+        if state >= self.states() || which >= self.marks() {
+            return S::floor();
+        }
+        self.grade((Kind::Mark as u8, state as u8, which as u8))
+    }
+}
+
+// A view is a plain type of its own for each scale, so that its name says what the file is in.
 
 /// A sheet file in thousandths, read where it lies.
 #[derive(Clone, Copy)]
 pub struct ThousandthsView<'a> {
-    bytes: &'a [u8],
+    file: OpenFile<'a, Thousandths>,
 }
 
 impl<'a> ThousandthsView<'a> {
     /// Opens a file in thousandths, or answers its first fault.
     pub fn open(bytes: &'a [u8]) -> Result<ThousandthsView<'a>, FileFault>
-        ensures verdict { Verdict 1 1000 own_code (level_of_code 1000) bytes.now (result_err result) }
-        ensures opened { IfOk result (λ view. Opened 1 1000 own_code (level_of_code 1000) bytes.now (thousandths_tables view)) }
+        ensures verdict { Verdict ⟦<Thousandths as Scale>⟧ bytes.now (result_err result) }
+        ensures opened { IfOk result (λ view. Opened ⟦<Thousandths as Scale>⟧ bytes.now (⟦<ThousandthsView<'a> as Structure>⟧.tables view)) }
     {
-        pass::<Thousandths>(bytes)?;
-        Ok(ThousandthsView { bytes })
+        Ok(ThousandthsView {
+            file: OpenFile::<Thousandths>::open(bytes)?,
+        })
     }
 }
 
 impl<'a> Structure for ThousandthsView<'a> {
     type Grade = Thousandths;
 
-    ghost tables = { thousandths_tables };
+    ghost tables = { λ view. file_tables ⟦<Thousandths as Scale>⟧ view.file.bytes.now };
+
+    ghost bounded = { λ view. file_bounded ⟦<Thousandths as Scale>⟧ (own_code_within 1000) view.file.bytes.now view.file.passed };
 
     fn states(&mut self) -> usize {
-        read_states::<Thousandths>(self.bytes)
+        self.file.states()
     }
 
     fn marks(&mut self) -> usize {
-        read_marks::<Thousandths>(self.bytes)
+        self.file.marks()
     }
 
     fn step_grade(&mut self, from: usize, to: usize) -> Thousandths {
-        read_step(self.bytes, from, to)
+        self.file.step(from, to)
     }
 
     fn mark_grade(&mut self, state: usize, which: usize) -> Thousandths {
-        read_mark(self.bytes, state, which)
+        self.file.mark(state, which)
     }
 }
 
 /// A sheet file in words, read where it lies.
 #[derive(Clone, Copy)]
 pub struct WordsView<'a> {
-    bytes: &'a [u8],
+    file: OpenFile<'a, Words>,
 }
 
 impl<'a> WordsView<'a> {
     /// Opens a file in words, or answers its first fault.
     pub fn open(bytes: &'a [u8]) -> Result<WordsView<'a>, FileFault>
-        ensures verdict { Verdict 2 6 own_code (level_of_code 6) bytes.now (result_err result) }
-        ensures opened { IfOk result (λ view. Opened 2 6 own_code (level_of_code 6) bytes.now (words_tables view)) }
+        ensures verdict { Verdict ⟦<Words as Scale>⟧ bytes.now (result_err result) }
+        ensures opened { IfOk result (λ view. Opened ⟦<Words as Scale>⟧ bytes.now (⟦<WordsView<'a> as Structure>⟧.tables view)) }
     {
-        pass::<Words>(bytes)?;
-        Ok(WordsView { bytes })
+        Ok(WordsView {
+            file: OpenFile::<Words>::open(bytes)?,
+        })
     }
 }
 
 impl<'a> Structure for WordsView<'a> {
     type Grade = Words;
 
-    ghost tables = { words_tables };
+    ghost tables = { λ view. file_tables ⟦<Words as Scale>⟧ view.file.bytes.now };
+
+    ghost bounded = { λ view. file_bounded ⟦<Words as Scale>⟧ (own_code_within 6) view.file.bytes.now view.file.passed };
 
     fn states(&mut self) -> usize {
-        read_states::<Words>(self.bytes)
+        self.file.states()
     }
 
     fn marks(&mut self) -> usize {
-        read_marks::<Words>(self.bytes)
+        self.file.marks()
     }
 
     fn step_grade(&mut self, from: usize, to: usize) -> Words {
-        read_step(self.bytes, from, to)
+        self.file.step(from, to)
     }
 
     fn mark_grade(&mut self, state: usize, which: usize) -> Words {
-        read_mark(self.bytes, state, which)
+        self.file.mark(state, which)
     }
 }
 
 /// A sheet file in yes and no, read where it lies.
 #[derive(Clone, Copy)]
 pub struct YesNoView<'a> {
-    bytes: &'a [u8],
+    file: OpenFile<'a, YesNo>,
 }
 
 impl<'a> YesNoView<'a> {
     /// Opens a file in yes and no, or answers its first fault.
     pub fn open(bytes: &'a [u8]) -> Result<YesNoView<'a>, FileFault>
-        ensures verdict { Verdict 3 1 own_code (level_of_code 1) bytes.now (result_err result) }
-        ensures opened { IfOk result (λ view. Opened 3 1 own_code (level_of_code 1) bytes.now (yes_no_tables view)) }
+        ensures verdict { Verdict ⟦<YesNo as Scale>⟧ bytes.now (result_err result) }
+        ensures opened { IfOk result (λ view. Opened ⟦<YesNo as Scale>⟧ bytes.now (⟦<YesNoView<'a> as Structure>⟧.tables view)) }
     {
-        pass::<YesNo>(bytes)?;
-        Ok(YesNoView { bytes })
+        Ok(YesNoView {
+            file: OpenFile::<YesNo>::open(bytes)?,
+        })
     }
 }
 
 impl<'a> Structure for YesNoView<'a> {
     type Grade = YesNo;
 
-    ghost tables = { yes_no_tables };
+    ghost tables = { λ view. file_tables ⟦<YesNo as Scale>⟧ view.file.bytes.now };
+
+    ghost bounded = { λ view. file_bounded ⟦<YesNo as Scale>⟧ (own_code_within 1) view.file.bytes.now view.file.passed };
 
     fn states(&mut self) -> usize {
-        read_states::<YesNo>(self.bytes)
+        self.file.states()
     }
 
     fn marks(&mut self) -> usize {
-        read_marks::<YesNo>(self.bytes)
+        self.file.marks()
     }
 
     fn step_grade(&mut self, from: usize, to: usize) -> YesNo {
-        read_step(self.bytes, from, to)
+        self.file.step(from, to)
     }
 
     fn mark_grade(&mut self, state: usize, which: usize) -> YesNo {
-        read_mark(self.bytes, state, which)
+        self.file.mark(state, which)
     }
 }

@@ -7,5 +7,5 @@ use Rattle.files.proofs.saving.count_records.Given as goal
 abbrev pub invariant-loop-index : goal.invariant-loop-index
 invariant-loop-index g l =
     (l.structure ≡ l.initial.structure)
-    × Counted l.index l.count (records_of g.K.Grade.Scale.code (g.K.Structure.tables l.initial.structure) (first_cells l.size.states l.size.marks l.index))
-    × GradedTo g.K.Grade.Scale.code g.K.Grade.Scale.decode (g.K.Structure.tables l.initial.structure) l.size.states l.size.marks l.index
+    × Counted l.index l.count (records_of g.K.Grade.Scale (g.K.Structure.tables l.initial.structure) (first_cells l.size.states l.size.marks l.index))
+    × GradedTo g.K.Grade.Scale (g.K.Structure.tables l.initial.structure) l.size.states l.size.marks l.index
