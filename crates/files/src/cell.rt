@@ -83,8 +83,8 @@ fn grade_at<K: Structure>(structure: &mut K, cell: Cell) -> K::Grade
     ensures graded { LeadsBack K.Grade.Scale (level_at (K.Structure.tables structure.old) cell) }
     ensures same { structure.new ≡ structure.old }
 {
-    let first = cell.first as usize;
-    let second = cell.second as usize;
+    let first = usize::from(cell.first);
+    let second = usize::from(cell.second);
     match cell.kind {
         Kind::Step => structure.step_grade(first, second),
         Kind::Mark => structure.mark_grade(first, second),

@@ -12,7 +12,7 @@ pub(crate) const RECORD: usize = 5;
 pub(crate) fn record_position(index: u16) -> usize
     ensures { result ≡ record_position index }
 {
-    HEADER + RECORD * index as usize
+    HEADER + RECORD * usize::from(index)
 }
 
 /// The records after the header, as their bytes are.

@@ -3,61 +3,64 @@ ghost use Rattle.files.specs.Faults.{grade_number, record_answer, file_answer, i
 
 use crate::entry::record_position;
 use grades::Refusal;
+use thiserror::Error;
 
 /// What is wrong with the code of a record.
-#[derive(Clone, Copy, Debug, PartialEq, Eq)]
+#[derive(Clone, Copy, Debug, PartialEq, Eq, Error)]
 pub enum GradeFault {
-    /// no grade of the scale has this code
+    #[error("no grade has the code {0}")]
     NoGrade(u16),
-    /// this is the code of the floor, which is left out of a file
+    #[error("the code {0} is the floor's, which is left out")]
     Floor(u16),
 }
 
 /// What is wrong with a record.
-#[derive(Clone, Copy, Debug, PartialEq, Eq)]
+#[derive(Clone, Copy, Debug, PartialEq, Eq, Error)]
 pub enum RecordCause {
-    /// the kind is neither 1 nor 2
+    #[error("its kind is neither 1 nor 2")]
     Kind,
-    /// the first number is no state
+    #[error("its first number is no state")]
     FirstState,
-    /// the second number of a step is no state
+    #[error("its second number is no state")]
     SecondState,
-    /// the second number of a mark is no mark
+    #[error("its second number is no mark")]
     Mark,
-    /// it does not come after the record before it
+    #[error("it does not come after the record before it")]
     Order,
-    /// its code is no grade's, or the floor's
+    #[error("{0}")]
     Grade(GradeFault),
 }
 
 /// The first fault of a record, with the record's index from 0.
-#[derive(Clone, Copy, Debug, PartialEq, Eq)]
+#[derive(Clone, Copy, Debug, PartialEq, Eq, Error)]
+#[error("record {index}: {cause}")]
 pub struct RecordFault {
     pub index: u16,
     pub cause: RecordCause,
 }
 
 /// What is wrong with a file.
-#[derive(Clone, Copy, Debug, PartialEq, Eq)]
+#[derive(Clone, Copy, Debug, PartialEq, Eq, Error)]
 pub enum FileCause {
-    /// fewer than ten bytes, or other letters than WSH
+    #[error("fewer than ten bytes, or other letters than WSH")]
     Letters,
-    /// another version than 1
+    #[error("another version than 1")]
     Version,
-    /// another scale than the one asked for
+    #[error("another scale than the one asked for")]
     Scale,
-    /// the states are not 1 to 64
+    #[error("the states are not 1 to 64")]
     States,
-    /// the marks are above 16
+    #[error("the marks are above 16")]
     Marks,
-    /// too many records, or the length is not that of so many records
+    #[error("more than 5,120 records, or not the length of so many")]
     Length,
-    /// one of its records
+    #[error("{0}")]
     Record(RecordFault),
 }
 
 /// The first fault of a file, with the position of the field that is at fault.
-#[derive(Clone, Copy, Debug, PartialEq, Eq)]
+#[derive(Clone, Copy, Debug, PartialEq, Eq, Error)]
+#[error("byte {position}: {cause}")]
 pub struct FileFault {
     pub position: usize,
     pub cause: FileCause,

@@ -10,11 +10,12 @@ use crate::cell::{Record, record_at};
 use crate::entry::{HEADER, RECORD};
 use grades::{Refusal, Scale};
 use sheets::{Size, Structure};
+use thiserror::Error;
 
 /// Why a structure is not saved.
-#[derive(Clone, Copy, Debug, PartialEq, Eq)]
+#[derive(Clone, Copy, Debug, PartialEq, Eq, Error)]
 pub enum SaveRefusal {
-    /// the memory is shorter than the file
+    #[error("the memory is shorter than the file")]
     Memory,
 }
 

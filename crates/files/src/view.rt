@@ -67,7 +67,7 @@ impl<'a, S: Scale> OpenFile<'a, S> {
     {
         rows(self.bytes).binary_search_by_key(
             &wanted,
-            |&[kind, first, second, _, _]| (kind, first, second),
+            |&[kind, first, second, ..]| (kind, first, second),
         )
     }
 
@@ -75,7 +75,7 @@ impl<'a, S: Scale> OpenFile<'a, S> {
     fn code_at(&self, index: usize) -> Option<u16>
         ensures { result ≡ code_at self.now.bytes.now index }
     {
-        let &[_, _, _, low, high] = rows(self.bytes).get(index)?;
+        let &[.., low, high] = rows(self.bytes).get(index)?;
         Some(u16::from_le_bytes([low, high]))
     }
 
@@ -93,10 +93,7 @@ impl<'a, S: Scale> OpenFile<'a, S> {
     fn grade(&self, wanted: Key) -> S
         ensures { S.Scale.level result ≡ level_found S.Scale (code_of (entries self.now.bytes.now) wanted) }
     {
-        let Some(code) = self.find(wanted) else {
-            return S::floor();
-        };
-        match S::of_code(code) {
+        match self.find(wanted).and_then(|code| S::of_code(code)) {
             Some(grade) => grade,
             None => S::floor(),
         }
