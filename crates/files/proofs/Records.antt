@@ -3,6 +3,7 @@ use Rattle.std.proofs.Common.{◌≡◌, ℕ, suc, ◌+◌, ◌-◌, ◌*◌, �
 use mathlib.Core.List.{map-append}
 use Rattle.std.proofs.lemmas.List.Edits.{sets, sets-eq}
 use Rattle.std.specs.List.{range_with_len}
+use Rattle.std.specs.Option.{option_to_list}
 use Rattle.std.proofs.lemmas.List.{append-nil}
 use Rattle.std.proofs.lemmas.List.FromFn.{map-range_with_len_more}
 use Rattle.std.proofs.lemmas.List.Elements.{filter-append}
@@ -15,33 +16,6 @@ use Rattle.files.specs.Progress.{Counted, Put}
 use Rattle.files.proofs.Cells.{map-range_with_len-append, cells_by_index}
 use Rattle.sheets.specs.Tables.{Tables}
 
--- ---- what is read at one cell, of a structure that is as it was before
-
-module _ {K : Type 0} (tables : K → Tables) {S : Type 0} (s : scale.Ghosts S) (k before : K) (c : Cell) (read : Option Record) (same : k ≡ before) (is : read ≡ recorded s (tables k) c) where
-  read_before : read ≡ recorded s (tables before) c
-  read_before = is ∙ ap (λ x. recorded s (tables x) c) same
-
-  pub found : (entry : Record) → read ≡ Some entry → (above_floor (tables before) c ≡ true) × (entry ≡ record_of s (tables before) c)
-  found entry some = by (above_floor (tables before) c) (sym some ∙ read_before)
-    where
-      by : (b : Bool) → Some entry ≡ cond b (Some (record_of s (tables before) c)) None → (b ≡ true) × (entry ≡ record_of s (tables before) c)
-      by true e = (refl, cc)
-      by false e = let z : ◌≡◌ {A = ℕ} 0 1 = cc in absurd (omega arith)
-
-  pub tested : is_some read ≡ above_floor (tables before) c
-  tested = ap is_some read_before ∙ by (above_floor (tables before) c)
-    where
-      by : (b : Bool) → is_some (cond b (Some (record_of s (tables before) c)) None) ≡ b
-      by true = refl
-      by false = refl
-
-  pub missed : ((entry : Record) → read ≡ Some entry → ⊥) → above_floor (tables before) c ≡ false
-  missed none = by (above_floor (tables before) c) read_before
-    where
-      by : (b : Bool) → read ≡ cond b (Some (record_of s (tables before) c)) None → b ≡ false
-      by true e = absurd (none (record_of s (tables before) c) e)
-      by false e = refl
-
 -- ---- records
 
 module _ {S : Type 0} (s : scale.Ghosts S) (T : Tables) (n m : ℕ) where
@@ -51,11 +25,17 @@ module _ {S : Type 0} (s : scale.Ghosts S) (T : Tables) (n m : ℕ) where
   records_more : (i : ℕ) → records_of s T (first_cells n m (i + 1)) ≡ records_of s T (first_cells n m i) ++ records_of s T (cell_at n m i ∷ [])
   records_more i = ap (records_of s T) (map-range_with_len_more (cell_at n m) 0 i i (omega arith)) ∙ records_of-append (first_cells n m i) (cell_at n m i ∷ [])
 
-  pub records_above : (i : ℕ) → above_floor T (cell_at n m i) ≡ true → records_of s T (first_cells n m (i + 1)) ≡ records_of s T (first_cells n m i) ++ (record_of s T (cell_at n m i) ∷ [])
-  records_above i above = records_more i ∙ rw above
+  -- the next cell adds its record, or none
+  pub records_next : (i : ℕ) (read : Option Record) → read ≡ recorded s T (cell_at n m i) → records_of s T (first_cells n m (i + 1)) ≡ records_of s T (first_cells n m i) ++ option_to_list read
+  records_next i read is = records_more i ∙ ap (λ rs. records_of s T (first_cells n m i) ++ rs) (by (above_floor T (cell_at n m i)) ∙ ap option_to_list (sym is))
+    where
+      by : (b : Bool) → map (record_of s T) (cond b (cell_at n m i ∷ []) []) ≡ option_to_list (cond b (Some (record_of s T (cell_at n m i))) None)
+      by true = refl
+      by false = refl
 
-  pub records_floor : (i : ℕ) → above_floor T (cell_at n m i) ≡ false → records_of s T (first_cells n m (i + 1)) ≡ records_of s T (first_cells n m i)
-  records_floor i floor = records_more i ∙ rw floor (append-nil _)
+  -- the cells by their index are all cells
+  pub records_all : (k : ℕ) → k ≡ n * (n + m) → records_of s T (first_cells n m k) ≡ records_of s T (cells n m)
+  records_all k e = ap (λ (k : ℕ). records_of s T (first_cells n m k)) e ∙ ap (records_of s T) (sym (cells_by_index n m))
 
   -- fewer cells have no more records
   pub records_grow : (i j : ℕ) → i ≤ j → length (records_of s T (first_cells n m i)) ≤ length (records_of s T (first_cells n m j))
@@ -64,6 +44,17 @@ module _ {S : Type 0} (s : scale.Ghosts S) (T : Tables) (n m : ℕ) where
       let parts : records_of s T (first_cells n m j) ≡ records_of s T (first_cells n m i) ++ records_of s T (map (cell_at n m) (range_with_len i (j - i)))
       = ap (λ (x : ℕ). records_of s T (first_cells n m x)) (sym k) ∙ ap (records_of s T) (sym (map-range_with_len-append (cell_at n m) 0 i i (j - i) (omega arith))) ∙ records_of-append (first_cells n m i) (map (cell_at n m) (range_with_len i (j - i))) in
       omega (arith, ap length parts, length-append (records_of s T (first_cells n m i)) (records_of s T (map (cell_at n m) (range_with_len i (j - i)))))
+
+  -- a cell above the floor has a record beyond those of the cells before it
+  pub records_beyond : (i : ℕ) (entry : Record) → i < n * (n + m) → Some entry ≡ recorded s T (cell_at n m i) → length (records_of s T (first_cells n m i)) < length (records_of s T (cells n m))
+  records_beyond i entry h is =
+      omega (
+        arith,
+        ap length (records_next i (Some entry) is),
+        length-append (records_of s T (first_cells n m i)) (entry ∷ []),
+        records_grow (i + 1) (n * (n + m)) (omega arith),
+        ap length (records_all (n * (n + m)) refl),
+      )
 
 -- ---- bytes
 
@@ -80,52 +71,10 @@ pub sets-append : {A : Type 0} (l : List A) (i j : ℕ) (vs ws : List A) → j �
 sets-append l i j [] ws e = let s : j ≡ i = omega arith in ap (λ (k : ℕ). sets l k ws) s
 sets-append l i j (v ∷ vs) ws e = sets-append _ (suc i) j vs ws (omega arith)
 
--- ---- one more cell
-
-module _ {S : Type 0} (s : scale.Ghosts S) (T : Tables) (n m i : ℕ) where
-  pub counted_above : (count count' : ℕ) → above_floor T (cell_at n m i) ≡ true → count' ≡ count + 1 →
-      Counted i count (records_of s T (first_cells n m i)) → Counted (i + 1) count' (records_of s T (first_cells n m (i + 1)))
-  counted_above count count' above e so_far = record {
-    value = omega (arith, so_far.value, ap length (records_above s T n m i above), length-append (records_of s T (first_cells n m i)) (record_of s T (cell_at n m i) ∷ []));
-    most = omega (arith, so_far.most);
-  }
-
-  pub counted_floor : (count count' : ℕ) → above_floor T (cell_at n m i) ≡ false → count' ≡ count →
-      Counted i count (records_of s T (first_cells n m i)) → Counted (i + 1) count' (records_of s T (first_cells n m (i + 1)))
-  counted_floor count count' floor e so_far = record {
-    value = e ∙ so_far.value ∙ sym (ap length (records_floor s T n m i floor));
-    most = omega (arith, so_far.most);
-  }
-
-  pub put_above : (before out out' : List ℕ) (at at' : ℕ) → above_floor T (cell_at n m i) ≡ true → out' ≡ sets out at (record_bytes (record_of s T (cell_at n m i))) → at' ≡ at + 5 →
-      Put before out at (records_of s T (first_cells n m i)) → Put before out' at' (records_of s T (first_cells n m (i + 1)))
-  put_above before out out' at at' above eo ea so_far =
-      record {
-        next = omega (arith, so_far.next, ap length (records_above s T n m i above), length-append (records_of s T (first_cells n m i)) (record_of s T (cell_at n m i) ∷ []));
-        bytes = eo ∙ ap (λ l. sets l at (record_bytes (record_of s T (cell_at n m i)))) so_far.bytes
-            ∙ sets-append before 10 at (bytes_of (records_of s T (first_cells n m i))) (record_bytes (record_of s T (cell_at n m i))) (omega (arith, so_far.next, length-bytes_of (records_of s T (first_cells n m i))))
-            ∙ ap (sets before 10) (sym (ap bytes_of (records_above s T n m i above) ∙ bytes_of-append (records_of s T (first_cells n m i)) (record_of s T (cell_at n m i) ∷ [])));
-      }
-
-  pub put_floor : (before out out' : List ℕ) (at at' : ℕ) → above_floor T (cell_at n m i) ≡ false → out' ≡ out → at' ≡ at →
-      Put before out at (records_of s T (first_cells n m i)) → Put before out' at' (records_of s T (first_cells n m (i + 1)))
-  put_floor before out out' at at' floor eo ea so_far = record {
-    next = ea ∙ so_far.next ∙ ap (λ rs. 10 + 5 * length rs) (sym (records_floor s T n m i floor));
-    bytes = eo ∙ so_far.bytes ∙ ap (λ rs. sets before 10 (bytes_of rs)) (sym (records_floor s T n m i floor));
-  }
-
-  -- the memory has room for one record more
-  pub put_room : (before out : List ℕ) (at : ℕ) → i < n * (n + m) → above_floor T (cell_at n m i) ≡ true → file_length (length (records_of s T (cells n m))) ≤ length before → length out ≡ length before →
-      Put before out at (records_of s T (first_cells n m i)) → at + 5 ≤ length out
-  put_room before out at h above room long so_far =
-      omega (
-        arith,
-        so_far.next,
-        ap length (records_above s T n m i above),
-        length-append (records_of s T (first_cells n m i)) (record_of s T (cell_at n m i) ∷ []),
-        records_grow s T n m (i + 1) (n * (n + m)) (omega arith),
-        ap (λ cs. length (records_of s T cs)) (cells_by_index n m),
-      )
+-- one record more
+pub sets_more : (rs : List Record) (entry : Record) (before : List ℕ) (at : ℕ) → at ≡ file_length (length rs) → sets (sets before 10 (bytes_of rs)) at (record_bytes entry) ≡ sets before 10 (bytes_of (rs ++ entry ∷ []))
+sets_more rs entry before at e =
+    sets-append before 10 at (bytes_of rs) (record_bytes entry) (omega (arith, length-bytes_of rs)) ∙ ap (sets before 10) (sym (bytes_of-append rs (entry ∷ [])))
 
 -- ---- the whole file
 

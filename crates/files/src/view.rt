@@ -93,10 +93,9 @@ impl<'a, S: Scale> OpenFile<'a, S> {
     fn grade(&self, wanted: Key) -> S
         ensures { S.Scale.level result ≡ level_found S.Scale (code_of (entries self.now.bytes.now) wanted) }
     {
-        match self.find(wanted).and_then(|code| S::of_code(code)) {
-            Some(grade) => grade,
-            None => S::floor(),
-        }
+        self.find(wanted)
+            .and_then(|code| S::of_code(code))
+            .unwrap_or(S::floor())
     }
 
     fn step(&self, from: usize, to: usize) -> S

@@ -1,64 +1,58 @@
-use Rattle.std.proofs.Common.{◌≡◌, ℕ, ◌+◌, ◌*◌, ◌≤◌, length, sym, ap, ◌∙◌, arith, rules}
+use Rattle.std.proofs.Common.{◌≡◌, ◌+◌, ◌*◌, ◌≤◌, [], ◌∷◌, length, Some, None, Option, sym, refl, ap, ◌∙◌, length-append, arith, rules}
+use Rattle.std.proofs.lemmas.List.{append-nil}
 use Rattle.std.proofs.lemmas.List.Edits.{sets}
-use Rattle.files.specs.Format.{record_bytes, records_of, bytes_of}
+use Rattle.files.specs.Format.{recorded, records_of, record_bytes, bytes_of}
 use Rattle.files.specs.Order.{cell_at, first_cells}
-use Rattle.files.proofs.Cells.{cells_by_index}
-use Rattle.files.proofs.Records.{found, missed, put_above, put_floor, put_room}
+use Rattle.files.proofs.Records.{records_next, records_all, records_beyond, sets_more}
 use Rattle.files.proofs.saving.put_records.Goals as goal
 use Rattle.files.proofs.saving.put_records.Goals.{in-Some, in_default}
 
+none_from : {X : Type 0} (o : Option X) → ((x : X) → o ≡ Some x → ⊥) → o ≡ None
+none_from None h = refl
+none_from (Some x) h = absurd (h x refl)
+
 pub put_record-requires : goal.put_record-requires
 put_record-requires g c =
-    let s = g.K.Grade.Scale in
-    let tables = g.K.Structure.tables in
-    let before = c.args.structure.now in
-    let n = c.args.size.states in
-    let m = c.args.size.marks in
-    let i = c.loop-index.index in
-    put_room s (tables before) n m i c.args.out.now c.loop-index.out c.loop-index.at (omega arith)
-    (found tables s _ before (cell_at n m i) _ c.loop-index.invariant.0 c.record_at.ensures.value _ c.in-Some.is).0 c.requires c.loop-index.auto.out c.loop-index.invariant.1
+    let so_far = c.loop-index.invariant in
+    let is = sym c.in-Some.is ∙ rw so_far.same at c.record_at.ensures.value in
+    omega (arith, c.requires, so_far.next, records_beyond g.K.Grade.Scale (g.K.Structure.tables c.args.structure.now) c.args.size.states c.args.size.marks c.loop-index.index c.in-Some.entry (omega arith) is)
 
 pub overflow_add-at : goal.overflow_add-at
 overflow_add-at g c =
-    let s = g.K.Grade.Scale in
-    let tables = g.K.Structure.tables in
-    let before = c.args.structure.now in
-    let n = c.args.size.states in
-    let m = c.args.size.marks in
-    let i = c.loop-index.index in
-    let room : c.loop-index.at + 5 ≤ length c.loop-index.out =
-    put_room s (tables before) n m i c.args.out.now c.loop-index.out c.loop-index.at (omega arith)
-    (found tables s _ before (cell_at n m i) _ c.loop-index.invariant.0 c.record_at.ensures.value _ c.in-Some.is).0 c.requires c.loop-index.auto.out c.loop-index.invariant.1 in
+    let so_far = c.loop-index.invariant in
+    let is = sym c.in-Some.is ∙ rw so_far.same at c.record_at.ensures.value in
+    let beyond = records_beyond g.K.Grade.Scale (g.K.Structure.tables c.args.structure.now) c.args.size.states c.args.size.marks c.loop-index.index c.in-Some.entry (omega arith) is in
+    let room : c.loop-index.at + 5 ≤ length c.loop-index.out = omega (arith, c.requires, so_far.next) in
     search rules
 
 pub loop-index-preserved : goal.loop-index-preserved
 loop-index-preserved g c =
     let s = g.K.Grade.Scale in
-    let tables = g.K.Structure.tables in
-    let before = c.args.structure.now in
+    let T = g.K.Structure.tables c.args.structure.now in
     let n = c.args.size.states in
     let m = c.args.size.marks in
     let i = c.loop-index.index in
-    let same = c.loop-index.invariant.0 in
-    let is = c.record_at.ensures.value in (
-      c.record_at.ensures.same ∙ same,
-      elim c.match-record_at.branch [
-        | in-Some w ↦ let entry = found tables s _ before (cell_at n m i) _ same is _ w.in-Some.is in
-            put_above s (tables before) n m i c.args.out.now c.loop-index.out c.match-record_at.out c.loop-index.at c.match-record_at.at entry.0
-            (w.out-is ∙ w.put_record.ensures ∙ ap (λ r. sets c.loop-index.out c.loop-index.at (record_bytes r)) entry.1) w.at-is c.loop-index.invariant.1
-        | in_default w ↦ put_floor s (tables before) n m i c.args.out.now c.loop-index.out c.match-record_at.out c.loop-index.at c.match-record_at.at
-            (missed tables s _ before (cell_at n m i) _ same is w.in_default.not-Some) w.out-is w.at-is c.loop-index.invariant.1
-      ],
-    )
+    let before = c.args.out.now in
+    let so_far = c.loop-index.invariant in
+    let read : c.record_at.result ≡ recorded s T (cell_at n m i) = rw so_far.same at c.record_at.ensures.value in
+    elim c.match-record_at.branch [
+      | in-Some w ↦
+        let more = records_next s T n m i (Some w.in-Some.entry) (sym w.in-Some.is ∙ read) in
+        record {
+          same = c.record_at.ensures.same ∙ so_far.same;
+          next = omega (arith, so_far.next, ap length more, length-append (records_of s T (first_cells n m i)) (w.in-Some.entry ∷ []));
+          written = w.out-is ∙ w.put_record.ensures ∙ ap (λ l. sets l c.loop-index.at (record_bytes w.in-Some.entry)) so_far.written
+              ∙ sets_more (records_of s T (first_cells n m i)) w.in-Some.entry before c.loop-index.at so_far.next ∙ ap (λ rs. sets before 10 (bytes_of rs)) (sym more);
+        }
+      | in_default w ↦
+        let more = records_next s T n m i None (sym (none_from c.record_at.result w.in_default.not-Some) ∙ read) ∙ append-nil _ in
+        record {
+          same = c.record_at.ensures.same ∙ so_far.same;
+          next = w.at-is ∙ so_far.next ∙ ap (λ rs. 10 + 5 * length rs) (sym more);
+          written = w.out-is ∙ so_far.written ∙ ap (λ rs. sets before 10 (bytes_of rs)) (sym more);
+        }
+    ]
 
-pub returns : goal.returns
-returns g c =
-    let n = c.args.size.states in
-    let m = c.args.size.marks in
-    let end : c.loop-index.index ≡ n * (n + m) = omega arith in
-    record {
-      written = c.loop-index.invariant.1.bytes
-          ∙ ap (λ (i : ℕ). sets c.args.out.now 10 (bytes_of (records_of g.K.Grade.Scale (g.K.Structure.tables c.args.structure.now) (first_cells n m i)))) end
-          ∙ ap (λ cs. sets c.args.out.now 10 (bytes_of (records_of g.K.Grade.Scale (g.K.Structure.tables c.args.structure.now) cs))) (sym (cells_by_index n m));
-      same = c.loop-index.invariant.0;
-    }
+pub returns-clause-written : goal.returns-clause-written
+returns-clause-written g c =
+    c.loop-index.invariant.written ∙ ap (λ rs. sets c.args.out.now 10 (bytes_of rs)) (records_all g.K.Grade.Scale (g.K.Structure.tables c.args.structure.now) c.args.size.states c.args.size.marks c.loop-index.index (omega arith))
