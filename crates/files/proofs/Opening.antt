@@ -55,21 +55,15 @@ module _ {S : Type 0} (s : scale.Ghosts S) (tall : (x : S) → s.level x ≤ s.h
       sym (get_or-map-range_with_len (cell_at T.states T.marks) 0 (T.states * (T.states + T.marks)) has.0 has.0 c inside (omega arith)) ∙ sym (ap (λ cs. get_or cs has.0 c) same) ∙ has.2 in
       subst (λ x. LeadsBack s (level_at T x)) is (graded has.0 inside)
 
-  pub storable : (T : Tables) → Bounded s.height T → (n m : ℕ) → n ≡ T.states → m ≡ T.marks → (S' : Tables) → S' ≡ T → GradedTo s S' n m (n * (n + m)) → (count : ℕ) → count ≡ length (table_records s T) → Storable s T count
-  storable T bounded n m en em S' es graded count counted =
-      let all = graded_by_index T bounded (subst (λ A. GradedTo s A T.states T.marks (T.states * (T.states + T.marks))) es (sizes n m en em graded)) in
+  pub storable : (T : Tables) → Bounded s.height T → GradedTo s T T.states T.marks (T.states * (T.states + T.marks)) → Storable s T
+  storable T bounded by_index =
+      let graded = graded_by_index T bounded by_index in
       record {
-        counted = counted;
-        few = omega (arith, records_few s s.height T bounded);
+        few = records_few s s.height T bounded;
         records = records_are s.height T bounded s;
         bounded = bounded;
-        graded = all;
-        sized = length-file_of s T ∙ ap file_length (sym counted);
-        opens = file_passes s T bounded all;
-        reopened = tables_recorded s T bounded all codes;
+        graded = graded;
+        sized = length-file_of s T;
+        opens = file_passes s T bounded graded;
+        reopened = tables_recorded s T bounded graded codes;
       }
-    where
-      sizes : (n m : ℕ) → n ≡ T.states → m ≡ T.marks → GradedTo s S' n m (n * (n + m)) → GradedTo s S' T.states T.marks (T.states * (T.states + T.marks))
-      sizes n m en em graded =
-          subst (λ (b : ℕ). GradedTo s S' T.states b (T.states * (T.states + b))) em
-          (subst (λ (a : ℕ). GradedTo s S' a m (a * (a + m))) en graded)

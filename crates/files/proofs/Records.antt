@@ -12,7 +12,6 @@ use Rattle.files.specs.declared.cell.Cell.{Cell}
 use Rattle.files.specs.declared.cell.Record.{Record}
 use Rattle.files.specs.Format.{cells, above_floor, record_of, recorded, records_of, record_bytes, bytes_of, header_bytes, table_records, file_of, file_length}
 use Rattle.files.specs.Order.{cell_at, first_cells}
-use Rattle.files.specs.Progress.{Counted, Put}
 use Rattle.files.proofs.Cells.{map-range_with_len-append, cells_by_index}
 use Rattle.sheets.specs.Tables.{Tables}
 

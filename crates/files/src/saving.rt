@@ -87,7 +87,7 @@ fn put_records<K: Structure>(structure: &mut K, size: Size, out: &mut [u8])
 /// The size of a structure, and how many records its file has.
 fn plan_of<K: Structure>(structure: &mut K) -> Plan
     ensures planned { Planned K.Grade.Scale (K.Structure.tables structure.old) result }
-    ensures storable { Storable K.Grade.Scale (K.Structure.tables structure.old) (length (table_records K.Grade.Scale (K.Structure.tables structure.old))) }
+    ensures storable { Storable K.Grade.Scale (K.Structure.tables structure.old) }
     ensures same { structure.new ≡ structure.old }
 {
     let size = Size::of(structure);
@@ -116,7 +116,7 @@ pub fn save<K: Structure>(structure: &mut K, out: &mut [u8]) -> Result<usize, Sa
     ensures saved { MatchResult result
         (λ answer. Saved K.Grade.Scale (K.Structure.tables structure.old) out.old out.new answer)
         (λ _. out.new ≡ out.old) }
-    ensures storable { Storable K.Grade.Scale (K.Structure.tables structure.old) (length (table_records K.Grade.Scale (K.Structure.tables structure.old))) }
+    ensures storable { Storable K.Grade.Scale (K.Structure.tables structure.old) }
     ensures same { structure.new ≡ structure.old }
 {
     let plan = plan_of(structure);
