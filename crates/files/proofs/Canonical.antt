@@ -14,7 +14,7 @@ use Rattle.files.specs.declared.cell.Record.{Record}
 use Rattle.files.specs.declared.entry.Entry.{Entry}
 use Rattle.files.specs.Bounds.{Headed, file_bounded}
 use Rattle.files.specs.Checks.{file_fault}
-use Rattle.files.specs.Entries.{two_bytes, states, marks, count, rows, entries_from, entries, key}
+use Rattle.files.specs.Entries.{two_bytes, states, marks, count, entries_from, entries, key}
 use Rattle.files.specs.Format.{Key, key_order, cell, cell_key, kind_byte, level_at, record_of, bytes_of, table_records, file_of, Before, Ascend, Records}
 use Rattle.files.specs.Recorded.{level_found, code_of, file_tables}
 use Rattle.files.proofs.Ascending.{Ascend_same, Contains-map_back}

@@ -1,7 +1,8 @@
 -- The order of keys is total, and keys that tie are one.
-use Rattle.std.proofs.Common.{◌≡◌, ℕ, ◌<◌, Bool, true, false, eqb, ltb, ◌⊎◌, refl, ap, inl, inr, sym, ◌∙◌, arith}
+use Rattle.std.proofs.Common.{◌≡◌, ℕ, ◌<◌, Bool, true, false, eqb, ltb, ◌⊎◌, refl, ap, inl, inr, sym, arith}
+use mathlib.Core.Bool.{false≢true}
 use Rattle.std.specs.Cmp.{IsTotalOrder}
-use Rattle.std.specs.Ordering.{nat_cmp, ordering_then, is_lt, is_eq}
+use Rattle.std.specs.Ordering.{nat_cmp, ordering_then, is_lt, ordering_index}
 use Rattle.std.specs.declared.cmp.Ordering.{Ordering}
 use Rattle.std.specs.declared.cmp.Ordering.TheVariants.{Less, Equal, Greater}
 use Rattle.std.proofs.lemmas.Bool.Decides.{nat_tests}
@@ -13,13 +14,13 @@ key_total = then_total (then_total (on_total (λ (k : Key). k.0) nat_cmp_total) 
 
 pub less_from_test : (o : Ordering) → is_lt o ≡ true → o ≡ Less
 less_from_test Less e = refl
-less_from_test Equal e = let z : ◌≡◌ {A = ℕ} 0 1 = cc in absurd (omega arith)
-less_from_test Greater e = let z : ◌≡◌ {A = ℕ} 0 1 = cc in absurd (omega arith)
+less_from_test Equal e = absurd (false≢true e)
+less_from_test Greater e = absurd (false≢true e)
 
 tied_parts : (a b : Ordering) → ordering_then a b ≡ Equal → (a ≡ Equal) × (b ≡ Equal)
-tied_parts Less b e = let z : ◌≡◌ {A = ℕ} 0 1 = cc in absurd (omega arith)
+tied_parts Less b e = absurd (omega (arith, ap ordering_index e))
 tied_parts Equal b e = (refl, e)
-tied_parts Greater b e = let z : ◌≡◌ {A = ℕ} 0 1 = cc in absurd (omega arith)
+tied_parts Greater b e = absurd (omega (arith, ap ordering_index e))
 
 pub same_from_tied : (a b : Key) → key_order a b ≡ Equal → a ≡ b
 same_from_tied a b e =

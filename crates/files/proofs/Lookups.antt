@@ -9,12 +9,12 @@ use Rattle.std.specs.declared.cmp.Ordering.TheVariants.{Less, Equal, Greater}
 use Rattle.std.proofs.lemmas.Bool.{cases_lt}
 use Rattle.std.proofs.lemmas.Cmp.{tied_itself}
 use Rattle.std.proofs.lemmas.List.Elements.{All-nil, All-cons, All-contains, All-weaker}
-use Rattle.std.proofs.lemmas.Option.{slice_get-get_or}
+use Rattle.std.proofs.lemmas.Option.{none-some, slice_get-get_or}
 use Rattle.std.proofs.lemmas.List.Sorted.{searchable_from_sorted}
 use Rattle.grades.specs.declared.scale.Scale as scale
 use Rattle.files.specs.declared.entry.Entry.{Entry}
 use Rattle.files.specs.Checks.{file_fault}
-use Rattle.files.specs.Entries.{two_bytes, states, marks, rows, entry_of, entries_from, entries, code_at, key}
+use Rattle.files.specs.Entries.{two_bytes, states, marks, raw_records, entry_of, entries_from, entries, code_at, key}
 use Rattle.files.specs.Format.{Key, key_order}
 use Rattle.files.specs.Recorded.{code_of}
 use Rattle.files.proofs.Keys.{key_total, less_from_test, same_from_tied}
@@ -35,7 +35,7 @@ Contains_later x xs y found = (suc found.0, omega (arith, found.1), found.2)
 -- ---- the first record of a key
 
 pub code_found : (es : List Entry) (wanted : Key) (c : ℕ) → code_of es wanted ≡ Some c → (e : Entry) × Contains es e × (key e ≡ wanted) × (e.code ≡ c)
-code_found [] wanted c none = let z : ◌≡◌ {A = ℕ} 0 1 = cc in absurd (omega arith)
+code_found [] wanted c none = absurd (none-some c none)
 code_found (e ∷ es) wanted c is = by (key_order (key e) wanted) refl is (code_found es wanted c)
   where
     later : (code_of es wanted ≡ Some c → (f : Entry) × Contains es f × (key f ≡ wanted) × (f.code ≡ c)) → code_of es wanted ≡ Some c → (f : Entry) × Contains (e ∷ es) f × (key f ≡ wanted) × (f.code ≡ c)
@@ -66,48 +66,48 @@ module _ {S : Type 0} (s : scale.Ghosts S) (n m : ℕ) where
 
 -- ---- a binary search
 
-abbrev pub row_key : List ℕ → Key
-row_key row = key (entry_of 0 row)
+abbrev pub raw_key : List ℕ → Key
+raw_key raw = key (entry_of 0 raw)
 
--- a row is among the records by its index
-has_row : (i : ℕ) (rows : List (List ℕ)) (k : ℕ) (d : List ℕ) (j : ℕ) → k < length rows → i + k ≡ j → Contains (entries_from i rows) (entry_of j (get_or rows k d))
-has_row i [] k d j h e = absurd (omega arith)
-has_row i (row ∷ rows) zero d j h e = let same : i ≡ j = omega arith in (0, omega arith, ap (λ (x : ℕ). entry_of x row) same)
-has_row i (row ∷ rows) (suc k) d j h e = Contains_later _ _ _ (has_row (i + 1) rows k d j (omega arith) (omega arith))
+-- a raw record is among the records by its index
+has_raw : (i : ℕ) (raws : List (List ℕ)) (k : ℕ) (d : List ℕ) (j : ℕ) → k < length raws → i + k ≡ j → Contains (entries_from i raws) (entry_of j (get_or raws k d))
+has_raw i [] k d j h e = absurd (omega arith)
+has_raw i (raw ∷ raws) zero d j h e = let same : i ≡ j = omega arith in (0, omega arith, ap (λ (x : ℕ). entry_of x raw) same)
+has_raw i (raw ∷ raws) (suc k) d j h e = Contains_later _ _ _ (has_raw (i + 1) raws k d j (omega arith) (omega arith))
 
-none_has : (wanted : Key) (i : ℕ) (rows : List (List ℕ)) → All (λ row. is_eq (key_order (row_key row) wanted) ≡ false) rows → code_of (entries_from i rows) wanted ≡ None
+none_has : (wanted : Key) (i : ℕ) (raws : List (List ℕ)) → All (λ raw. is_eq (key_order (raw_key raw) wanted) ≡ false) raws → code_of (entries_from i raws) wanted ≡ None
 none_has wanted i [] all = refl
-none_has wanted i (row ∷ rows) all = rw (all 0 row (omega arith)) (none_has wanted (i + 1) rows (λ k d h. all (suc k) d (omega arith)))
+none_has wanted i (raw ∷ raws) all = rw (all 0 raw (omega arith)) (none_has wanted (i + 1) raws (λ k d h. all (suc k) d (omega arith)))
 
 module _ {S : Type 0} (s : scale.Ghosts S) (n m : ℕ) where
-  rising : (before : Option Entry) (i : ℕ) (rows : List (List ℕ)) → Sound s n m before (entries_from i rows) → IsSortedBy (λ a b. is_lt (key_order (row_key a) (row_key b))) rows
+  rising : (before : Option Entry) (i : ℕ) (raws : List (List ℕ)) → Sound s n m before (entries_from i raws) → IsSortedBy (λ a b. is_lt (key_order (raw_key a) (raw_key b))) raws
   rising before i [] x k d l h = absurd (omega arith)
-  rising before i (row ∷ []) x k d l h = absurd (omega arith)
-  rising before i (row ∷ (next ∷ rows)) x zero d l h =
-      ap is_lt (key_total.antisymm (row_key next) (row_key row) ∙ ap ordering_reverse (less_from_test _ x.2.1))
-  rising before i (row ∷ (next ∷ rows)) x (suc k) d l h =
+  rising before i (raw ∷ []) x k d l h = absurd (omega arith)
+  rising before i (raw ∷ (next ∷ raws)) x zero d l h =
+      ap is_lt (key_total.antisymm (raw_key next) (raw_key raw) ∙ ap ordering_reverse (less_from_test _ x.2.1))
+  rising before i (raw ∷ (next ∷ raws)) x (suc k) d l h =
       let more : suc k + 1 ≡ suc (k + 1) = omega arith in
-      rw more (rising (Some (entry_of i row)) (i + 1) (next ∷ rows) x.2 k d (omega arith) (omega arith))
+      rw more (rising (Some (entry_of i raw)) (i + 1) (next ∷ raws) x.2 k d (omega arith) (omega arith))
 
--- what a binary search by the key finds, in the rows of a file without a fault
+-- what a binary search by the key finds, in a file without a fault
 module _ {S : Type 0} (s : scale.Ghosts S) (bytes : List ℕ) (passed : file_fault s bytes ≡ None) (wanted : Key) where
   sound : Sound s (states bytes) (marks bytes) None (entries bytes)
   sound = (faultless s bytes passed).1
 
-  found_at : (k : ℕ) → k < length (rows bytes) → key_order (row_key (get_or (rows bytes) k [])) wanted ≡ Equal → code_of (entries bytes) wanted ≡ code_at bytes k
+  found_at : (k : ℕ) → k < length (raw_records bytes) → key_order (raw_key (get_or (raw_records bytes) k [])) wanted ≡ Equal → code_of (entries bytes) wanted ≡ code_at bytes k
   found_at k h tied =
       ap (code_of (entries bytes)) (sym (same_from_tied _ _ tied))
-      ∙ code_had s (states bytes) (marks bytes) None (entries bytes) (entry_of k (get_or (rows bytes) k [])) sound (has_row 0 (rows bytes) k [] k h (omega arith))
-      ∙ ap (option_map (λ row. two_bytes row 3)) (sym (slice_get-get_or (rows bytes) k [] h))
+      ∙ code_had s (states bytes) (marks bytes) None (entries bytes) (entry_of k (get_or (raw_records bytes) k [])) sound (has_raw 0 (raw_records bytes) k [] k h (omega arith))
+      ∙ ap (option_map (λ raw. two_bytes raw 3)) (sym (slice_get-get_or (raw_records bytes) k [] h))
 
-  found_nowhere : (k : ℕ) → IsPartitionPoint (λ row. key_order (row_key row) wanted ≡ Less) (λ row. key_order (row_key row) wanted ≡ Greater) (rows bytes) k → code_of (entries bytes) wanted ≡ None
-  found_nowhere k sides = none_has wanted 0 (rows bytes) (λ j d h. by j d h (cases_lt j k))
+  found_nowhere : (k : ℕ) → IsPartitionPoint (λ raw. key_order (raw_key raw) wanted ≡ Less) (λ raw. key_order (raw_key raw) wanted ≡ Greater) (raw_records bytes) k → code_of (entries bytes) wanted ≡ None
+  found_nowhere k sides = none_has wanted 0 (raw_records bytes) (λ j d h. by j d h (cases_lt j k))
     where
-      by : (j : ℕ) (d : List ℕ) → j < length (rows bytes) → (j < k) ⊎ (k ≤ j) → is_eq (key_order (row_key (get_or (rows bytes) j d)) wanted) ≡ false
+      by : (j : ℕ) (d : List ℕ) → j < length (raw_records bytes) → (j < k) ⊎ (k ≤ j) → is_eq (key_order (raw_key (get_or (raw_records bytes) j d)) wanted) ≡ false
       by j d h (inl l) = rw (sides.0 j d (omega arith) l)
       by j d h (inr l) = rw (sides.1 j d l h)
 
-  pub searched : (r : Result ℕ ℕ) → IsSearchInRange r (length (rows bytes)) → IsBinarySearchResult (λ row. key_order (row_key row) wanted) (rows bytes) r →
+  pub searched : (r : Result ℕ ℕ) → IsSearchInRange r (length (raw_records bytes)) → IsBinarySearchResult (λ raw. key_order (raw_key raw) wanted) (raw_records bytes) r →
       MatchResult r (λ index. code_of (entries bytes) wanted ≡ code_at bytes index) (λ _. code_of (entries bytes) wanted ≡ None)
   searched (Ok k) h tied = found_at k h (tied [])
-  searched (Err k) h parted = found_nowhere k (parted (searchable_from_sorted key_total row_key (rows bytes) wanted (rising s (states bytes) (marks bytes) None 0 (rows bytes) sound)))
+  searched (Err k) h parted = found_nowhere k (parted (searchable_from_sorted key_total raw_key (raw_records bytes) wanted (rising s (states bytes) (marks bytes) None 0 (raw_records bytes) sound)))

@@ -15,7 +15,7 @@ use Rattle.files.specs.declared.cell.Record.{Record}
 use Rattle.files.specs.declared.entry.Entry.{Entry}
 use Rattle.files.specs.Bounds.{Headed}
 use Rattle.files.specs.Checks.{follows, file_fault}
-use Rattle.files.specs.Entries.{states, marks, count, rows, entries_from, entries}
+use Rattle.files.specs.Entries.{states, marks, count, entries_from, entries}
 use Rattle.files.specs.Format.{cell, cells, kind_byte, level_at, above_floor, record_of, bytes_of, table_records, file_of, Ascend, Records, Graded}
 use Rattle.files.specs.Recorded.{file_tables}
 use Rattle.files.proofs.Canonical.{typed, kind_back, file_records, records_recorded}
@@ -28,23 +28,23 @@ use Rattle.sheets.specs.Tables.{Tables, Bounded}
 
 -- ---- records as they are read back
 
-abbrev raw : (index : ℕ) → Record → Entry
-raw index r = record { index = index; kind = kind_byte r.cell.kind; first = r.cell.first; second = r.cell.second; code = r.code }
+abbrev entry_back : (index : ℕ) → Record → Entry
+entry_back index r = record { index = index; kind = kind_byte r.cell.kind; first = r.cell.first; second = r.cell.second; code = r.code }
 
-abbrev raws : (index : ℕ) → List Record → List Entry
-raws index [] = []
-raws index (r ∷ rs) = raw index r ∷ raws (index + 1) rs
+abbrev entries_back : (index : ℕ) → List Record → List Entry
+entries_back index [] = []
+entries_back index (r ∷ rs) = entry_back index r ∷ entries_back (index + 1) rs
 
-typed_raws : (i : ℕ) (rs : List Record) → map typed (raws i rs) ≡ rs
-typed_raws i [] = refl
-typed_raws i (r ∷ rs) =
-    ap₂ (λ x xs. x ∷ xs) (λ j. record { cell = record { kind = kind_back r.cell.kind j; first = r.cell.first; second = r.cell.second }; code = r.code }) (typed_raws (i + 1) rs)
+typed_back : (i : ℕ) (rs : List Record) → map typed (entries_back i rs) ≡ rs
+typed_back i [] = refl
+typed_back i (r ∷ rs) =
+    ap₂ (λ x xs. x ∷ xs) (λ j. record { cell = record { kind = kind_back r.cell.kind j; first = r.cell.first; second = r.cell.second }; code = r.code }) (typed_back (i + 1) rs)
 
-reads : (i : ℕ) (rs : List Record) → entries_from i (first_chunks 5 (length rs) (bytes_of rs)) ≡ raws i rs
+reads : (i : ℕ) (rs : List Record) → entries_from i (first_chunks 5 (length rs) (bytes_of rs)) ≡ entries_back i rs
 reads i [] = refl
 reads i (r ∷ rs) =
     let code : r.code % 256 + r.code / 256 * 256 ≡ r.code = omega arith in
-    ap₂ (λ x xs. x ∷ xs) (ap (λ (c : ℕ). record (raw i r) { code = c }) code) (reads (i + 1) rs)
+    ap₂ (λ x xs. x ∷ xs) (ap (λ (c : ℕ). record (entry_back i r) { code = c }) code) (reads (i + 1) rs)
 
 -- ---- they pass their checks
 
@@ -61,8 +61,8 @@ module _ {S : Type 0} (s : scale.Ghosts S) (T : Tables) (bounded : Bounded s.hei
   abbrev Written : Record → Type 0
   Written r = (0 < level_at T r.cell) × (r.code ≡ s.code (level_at T r.cell))
 
-  raw_proper : (i : ℕ) (r : Record) → Written r → Proper s T.states T.marks (raw i r)
-  raw_proper i r w =
+  proper_back : (i : ℕ) (r : Record) → Written r → Proper s T.states T.marks (entry_back i r)
+  proper_back i r w =
       let inner = in_numbers s.height T bounded r.cell.kind r.cell.first r.cell.second w.0 in
       record {
         kind = r.cell.kind;
@@ -74,12 +74,12 @@ module _ {S : Type 0} (s : scale.Ghosts S) (T : Tables) (bounded : Bounded s.hei
         above = w.0;
       }
 
-  raws_sound : (before : Option Entry) (i : ℕ) (rs : List Record) → Ascend rs → All Written rs → All (λ r. (j : ℕ) → follows before (raw j r) ≡ true) rs → Sound s T.states T.marks before (raws i rs)
-  raws_sound before i [] up all after = tt
-  raws_sound before i (r ∷ rs) up all after = (
-    raw_proper i r (All-head Written r rs all),
-    All-head (λ r. (j : ℕ) → follows before (raw j r) ≡ true) r rs after i,
-    raws_sound (Some (raw i r)) (i + 1) rs up.1 (All-tail Written r rs all) (λ k d h j. ap is_lt (up.0 k d h)),
+  sound_back : (before : Option Entry) (i : ℕ) (rs : List Record) → Ascend rs → All Written rs → All (λ r. (j : ℕ) → follows before (entry_back j r) ≡ true) rs → Sound s T.states T.marks before (entries_back i rs)
+  sound_back before i [] up all after = tt
+  sound_back before i (r ∷ rs) up all after = (
+    proper_back i r (All-head Written r rs all),
+    All-head (λ r. (j : ℕ) → follows before (entry_back j r) ≡ true) r rs after i,
+    sound_back (Some (entry_back i r)) (i + 1) rs up.1 (All-tail Written r rs all) (λ k d h j. ap is_lt (up.0 k d h)),
   )
 
   -- ---- the file
@@ -105,7 +105,7 @@ module _ {S : Type 0} (s : scale.Ghosts S) (T : Tables) (bounded : Bounded s.hei
         whole = omega (arith, long, count_is);
       }
 
-  entries_are : entries (file_of s T) ≡ raws 0 (table_records s T)
+  entries_are : entries (file_of s T) ≡ entries_back 0 (table_records s T)
   unfolding file_of
   entries_are = ap (λ (k : ℕ). entries_from 0 (first_chunks 5 k (bytes_of (table_records s T)))) count_is ∙ reads 0 (table_records s T)
 
@@ -113,7 +113,7 @@ module _ {S : Type 0} (s : scale.Ghosts S) (T : Tables) (bounded : Bounded s.hei
   unfolding file_of
   is_sound =
       let laws = records_are s.height T bounded s in
-      subst (λ es. Sound s T.states T.marks None es) (sym entries_are) (raws_sound None 0 (table_records s T) laws.ascend laws.above (λ k d h j. refl))
+      subst (λ es. Sound s T.states T.marks None es) (sym entries_are) (sound_back None 0 (table_records s T) laws.ascend laws.above (λ k d h j. refl))
 
   pub file_passes : file_fault s (file_of s T) ≡ None
   file_passes = without_fault s (file_of s T) is_headed is_sound
@@ -124,7 +124,7 @@ module _ {S : Type 0} (s : scale.Ghosts S) (T : Tables) (bounded : Bounded s.hei
     R = file_tables s (file_of s T)
 
     same_file_records : table_records s R ≡ table_records s T
-    same_file_records = sym (records_recorded s codes (file_of s T) file_passes) ∙ ap (map typed) entries_are ∙ typed_raws 0 (table_records s T)
+    same_file_records = sym (records_recorded s codes (file_of s T) file_passes) ∙ ap (map typed) entries_are ∙ typed_back 0 (table_records s T)
 
     levels_recorded : (c : Cell) → level_at R c ≡ level_at T c
     levels_recorded c = same (cases_lt 0 (level_at R c)) (cases_lt 0 (level_at T c))

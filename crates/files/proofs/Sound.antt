@@ -1,5 +1,6 @@
 -- A file has no fault exactly if its header and each of its records are as they should be.
 use Rattle.std.proofs.Common.{◌≡◌, ℕ, ◌<◌, ◌≤◌, Bool, true, false, ◌||◌, eqb, ltb, ◌⊎◌, List, [], ◌∷◌, length, get_or, is_some, Some, None, Option, unwrap_or, refl, ap, inl, inr, arith, ltb-true, lt-ltb, eq-eqb, eqb-true, le-leb, leb-true}
+use mathlib.Core.Bool.{false≢true}
 use Rattle.std.proofs.lemmas.Bool.{or_cases}
 use Rattle.std.specs.Option.{option_map, option_or}
 use Rattle.grades.specs.Refusals.{needing}
@@ -40,7 +41,7 @@ Sound s n m before [] = Unit {0}
 Sound s n m before (e ∷ es) = Proper s n m e × (follows before e ≡ true) × Sound s n m (Some e) es
 
 level_here : (o : Option ℕ) → is_some o ≡ true → 0 < unwrap_or o 0 → (p : ℕ) × (o ≡ Some p) × (0 < p)
-level_here None s h = let z : ◌≡◌ {A = ℕ} 0 1 = cc in absurd (omega arith)
+level_here None s h = absurd (false≢true s)
 level_here (Some p) s h = (p, refl, h)
 
 kind_here : (n m kind second : ℕ) → (eqb kind 1 || eqb kind 2) ≡ true → second < second_limit n m kind → (k : Kind) × (kind ≡ kind_byte k) × (second < limit n m k)

@@ -1,7 +1,8 @@
 -- The tables of a file without a fault lie within the limits: lemmas for the law of its views.
 use Rattle.std.specs.Prelude.{◌≡◌, ℕ, ◌≤◌, Bool, true, false, cond, ◌⊎◌, List, length, get_or, Some, None, Option, ltb, leb, refl}
 use Rattle.std.specs.Option.{unwrap_or, option_map, option_or}
-use Rattle.std.proofs.Common.{arith, inl, inr, le-ltb, leb-true, eqb-true}
+use Rattle.std.proofs.Common.{sym, arith, inl, inr, le-ltb, leb-true, eqb-true}
+use Rattle.std.proofs.lemmas.Option.{none-some}
 use Rattle.grades.specs.Refusals.{needing}
 use Rattle.grades.specs.Levels.{level_of_code}
 use Rattle.grades.specs.declared.scale.Scale as scale
@@ -14,20 +15,17 @@ use Rattle.sheets.specs.Tables.{Limits, Bounded}
 
 -- ---- ladders without a refusal
 
-absent : {A : Type 0} {B : Type 0} (x : A) → ◌≡◌ {A = Option A} (Some x) None → B
-absent x e = let z : ◌≡◌ {A = ℕ} 0 1 = cc in absurd (omega arith)
-
 pub needed : {R : Type 0} (test : Bool) (refusal : R) (next : Option R) → needing test refusal next ≡ None → (test ≡ true) × (next ≡ None)
 needed true refusal next e = (refl, e)
-needed false refusal next e = absent refusal e
+needed false refusal next e = absurd (none-some refusal (sym e))
 
 pub neither : {R : Type 0} (a b : Option R) → option_or a b ≡ None → (a ≡ None) × (b ≡ None)
 neither None b e = (refl, e)
-neither (Some x) b e = absent x e
+neither (Some x) b e = absurd (none-some x (sym e))
 
 pub unmapped : {A B : Type 0} (f : A → B) (o : Option A) → option_map f o ≡ None → o ≡ None
 unmapped f None e = refl
-unmapped f (Some x) e = absent (f x) e
+unmapped f (Some x) e = absurd (none-some (f x) (sym e))
 
 -- ---- the header
 
@@ -86,7 +84,7 @@ own_code_within height c p = by (leb c height) (leb-true c height)
   where
     by : (b : Bool) → (b ≡ true → c ≤ height) → cond b (Some c) None ≡ Some p → p ≤ height
     by true within e = let same : p ≡ c = cc in omega (arith, within refl)
-    by false within e = let z : ◌≡◌ {A = ℕ} 0 1 = cc in absurd (omega arith)
+    by false within e = absurd (none-some p e)
 
 module _ {S : Type 0} (s : scale.Ghosts S) (within : (c p : ℕ) → s.decode c ≡ Some p → p ≤ s.height) (bytes : List ℕ) where
   level_within : (found : Option ℕ) → level_found s found ≤ s.height

@@ -20,30 +20,30 @@ abbrev pub count : List ℕ → ℕ
 count bytes = two_bytes bytes 8
 
 -- the records, five bytes each, after the ten of the header
-abbrev pub rows : List ℕ → List (List ℕ)
-rows bytes = first_chunks 5 (count bytes) (drop 10 bytes)
+abbrev pub raw_records : List ℕ → List (List ℕ)
+raw_records bytes = first_chunks 5 (count bytes) (drop 10 bytes)
 
 -- a record's index and bytes: kind, first number, second number, and the code in two bytes
 abbrev pub entry_of : (index : ℕ) → List ℕ → Entry
-entry_of index row = record {
+entry_of index raw = record {
   index = index;
-  kind = slice_index row 0;
-  first = slice_index row 1;
-  second = slice_index row 2;
-  code = two_bytes row 3;
+  kind = slice_index raw 0;
+  first = slice_index raw 1;
+  second = slice_index raw 2;
+  code = two_bytes raw 3;
 }
 
 -- records, counted from an index on
 abbrev pub entries_from : (index : ℕ) → List (List ℕ) → List Entry
 entries_from index [] = []
-entries_from index (row ∷ rows) = entry_of index row ∷ entries_from (index + 1) rows
+entries_from index (raw ∷ raws) = entry_of index raw ∷ entries_from (index + 1) raws
 
 abbrev pub entries : List ℕ → List Entry
-entries bytes = entries_from 0 (rows bytes)
+entries bytes = entries_from 0 (raw_records bytes)
 
 -- the code of the record of an index, or nothing after the last
 abbrev pub code_at : List ℕ → (index : ℕ) → Option ℕ
-code_at bytes index = option_map (λ row. two_bytes row 3) (slice_get (rows bytes) index)
+code_at bytes index = option_map (λ raw. two_bytes raw 3) (slice_get (raw_records bytes) index)
 
 abbrev pub key : Entry → Key
 key e = (e.kind, e.first, e.second)

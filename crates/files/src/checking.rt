@@ -7,7 +7,7 @@ ghost use Rattle.files.specs.Checks.{header_fault, grade_fault, fault_at, record
 ghost use Rattle.files.specs.Opening.{Verdict};
 
 use crate::cell::Kind;
-use crate::entry::{Entry, record_position, rows};
+use crate::entry::{Entry, raw_records, record_position};
 use crate::fault::{FileCause, FileFault, GradeFault, RecordCause, RecordFault};
 use grades::Scale;
 
@@ -105,13 +105,13 @@ impl Entry {
     }
 }
 
-fn check_records<S: Scale>(header: Header, rows: &[[u8; 5]]) -> Result<(), RecordFault>
-    requires { length rows.now ≤ 5120 }
-    ensures { result_err result ≡ records_fault S.Scale header.states header.marks None (entries_from 0 rows.now) }
+fn check_records<S: Scale>(header: Header, raws: &[[u8; 5]]) -> Result<(), RecordFault>
+    requires { length raws.now ≤ 5120 }
+    ensures { result_err result ≡ records_fault S.Scale header.states header.marks None (entries_from 0 raws.now) }
 {
     let mut before = None;
-    for (index, row) in rows.iter().enumerate() {
-        let entry = Entry::new(index as u16, row);
+    for (index, raw) in raws.iter().enumerate() {
+        let entry = Entry::new(index as u16, raw);
         entry.check::<S>(header, before)?;
         before = Some(entry);
     }
@@ -123,7 +123,7 @@ fn find_fault<S: Scale>(bytes: &[u8]) -> Result<(), FileFault>
     ensures { result_err result ≡ file_fault S.Scale bytes.now }
 {
     let header = Header::parse::<S>(bytes)?;
-    check_records::<S>(header, rows(bytes))?;
+    check_records::<S>(header, raw_records(bytes))?;
     Ok(())
 }
 

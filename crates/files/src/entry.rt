@@ -1,6 +1,6 @@
 ghost use Rattle.std.specs.Prelude.{◌≡◌, ◌≤◌, length};
 ghost use Rattle.files.specs.Format.{record_position, file_length};
-ghost use Rattle.files.specs.Entries.{count, rows, entry_of, key};
+ghost use Rattle.files.specs.Entries.{count, raw_records, entry_of, key};
 
 /// The length of a header.
 pub(crate) const HEADER: usize = 10;
@@ -16,13 +16,12 @@ pub(crate) fn record_position(index: u16) -> usize
 }
 
 /// The records after the header, as their bytes are.
-pub(crate) fn rows(bytes: &[u8]) -> &[[u8; 5]]
+pub(crate) fn raw_records(bytes: &[u8]) -> &[[u8; 5]]
     requires { length bytes.now ≡ file_length (count bytes.now) }
-    ensures value { result.now ≡ rows bytes.now }
+    ensures value { result.now ≡ raw_records bytes.now }
     ensures many { length result.now ≡ count bytes.now }
 {
-    let (rows, _) = bytes[HEADER..].as_chunks();
-    rows
+    bytes[HEADER..].as_chunks().0
 }
 
 /// By which records are ordered: kind, first number, second number.
@@ -39,10 +38,10 @@ pub(crate) struct Entry {
 }
 
 impl Entry {
-    pub(crate) fn new(index: u16, row: &[u8; 5]) -> Entry
-        ensures { result ≡ entry_of index row.now }
+    pub(crate) fn new(index: u16, raw: &[u8; 5]) -> Entry
+        ensures { result ≡ entry_of index raw.now }
     {
-        let &[kind, first, second, low, high] = row;
+        let &[kind, first, second, low, high] = raw;
         Entry {
             index,
             kind,

@@ -9,7 +9,7 @@ ghost use Rattle.std.proofs.Props.{props};
 
 use crate::cell::Kind;
 use crate::checking::check;
-use crate::entry::{Key, rows};
+use crate::entry::{Key, raw_records};
 use crate::fault::FileFault;
 use grades::{Scale, Thousandths, Words, YesNo};
 use sheets::Structure;
@@ -65,7 +65,7 @@ impl<'a, S: Scale> OpenFile<'a, S> {
             (λ index. code_of (entries self.now.bytes.now) wanted ≡ code_at self.now.bytes.now index)
             (λ _. code_of (entries self.now.bytes.now) wanted ≡ None) }
     {
-        rows(self.bytes).binary_search_by_key(
+        raw_records(self.bytes).binary_search_by_key(
             &wanted,
             |&[kind, first, second, ..]| (kind, first, second),
         )
@@ -75,7 +75,7 @@ impl<'a, S: Scale> OpenFile<'a, S> {
     fn code_at(&self, index: usize) -> Option<u16>
         ensures { result ≡ code_at self.now.bytes.now index }
     {
-        let &[.., low, high] = rows(self.bytes).get(index)?;
+        let &[.., low, high] = raw_records(self.bytes).get(index)?;
         Some(u16::from_le_bytes([low, high]))
     }
 
@@ -143,7 +143,7 @@ impl<'a> Structure for ThousandthsView<'a> {
 
     ghost tables = { λ view. file_tables ⟦<Thousandths as Scale>⟧ view.file.bytes.now };
 
-    ghost bounded = { λ view. file_bounded ⟦<Thousandths as Scale>⟧ (own_code_within 1000) view.file.bytes.now view.file.passed };
+    ghost bounded = { λ view. file_bounded ⟦<Thousandths as Scale>⟧ (own_code_within _) view.file.bytes.now view.file.passed };
 
     fn states(&mut self) -> usize {
         self.file.states()
@@ -185,7 +185,7 @@ impl<'a> Structure for WordsView<'a> {
 
     ghost tables = { λ view. file_tables ⟦<Words as Scale>⟧ view.file.bytes.now };
 
-    ghost bounded = { λ view. file_bounded ⟦<Words as Scale>⟧ (own_code_within 6) view.file.bytes.now view.file.passed };
+    ghost bounded = { λ view. file_bounded ⟦<Words as Scale>⟧ (own_code_within _) view.file.bytes.now view.file.passed };
 
     fn states(&mut self) -> usize {
         self.file.states()
@@ -227,7 +227,7 @@ impl<'a> Structure for YesNoView<'a> {
 
     ghost tables = { λ view. file_tables ⟦<YesNo as Scale>⟧ view.file.bytes.now };
 
-    ghost bounded = { λ view. file_bounded ⟦<YesNo as Scale>⟧ (own_code_within 1) view.file.bytes.now view.file.passed };
+    ghost bounded = { λ view. file_bounded ⟦<YesNo as Scale>⟧ (own_code_within _) view.file.bytes.now view.file.passed };
 
     fn states(&mut self) -> usize {
         self.file.states()

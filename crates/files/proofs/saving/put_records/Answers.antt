@@ -14,13 +14,13 @@ none_from (Some x) h = absurd (h x refl)
 pub put_record-requires : goal.put_record-requires
 put_record-requires g c =
     let so_far = c.loop-index.invariant in
-    let is = sym c.in-Some.is ∙ rw so_far.same at c.record_at.ensures.value in
+    let is = rw (so_far.same, c.in-Some.is) at c.record_at.ensures.value in
     omega (arith, c.requires, so_far.next, records_beyond g.K.Grade.Scale (g.K.Structure.tables c.args.structure.now) c.args.size.states c.args.size.marks c.loop-index.index c.in-Some.entry (omega arith) is)
 
 pub overflow_add-at : goal.overflow_add-at
 overflow_add-at g c =
     let so_far = c.loop-index.invariant in
-    let is = sym c.in-Some.is ∙ rw so_far.same at c.record_at.ensures.value in
+    let is = rw (so_far.same, c.in-Some.is) at c.record_at.ensures.value in
     let beyond = records_beyond g.K.Grade.Scale (g.K.Structure.tables c.args.structure.now) c.args.size.states c.args.size.marks c.loop-index.index c.in-Some.entry (omega arith) is in
     let room : c.loop-index.at + 5 ≤ length c.loop-index.out = omega (arith, c.requires, so_far.next) in
     search rules
@@ -37,20 +37,20 @@ loop-index-preserved g c =
     let read : c.record_at.result ≡ recorded s T (cell_at n m i) = rw so_far.same at c.record_at.ensures.value in
     elim c.match-record_at.branch [
       | in-Some w ↦
-        let more = records_next s T n m i (Some w.in-Some.entry) (sym w.in-Some.is ∙ read) in
-        record {
-          same = c.record_at.ensures.same ∙ so_far.same;
-          next = omega (arith, so_far.next, ap length more, length-append (records_of s T (first_cells n m i)) (w.in-Some.entry ∷ []));
-          written = w.out-is ∙ w.put_record.ensures ∙ ap (λ l. sets l c.loop-index.at (record_bytes w.in-Some.entry)) so_far.written
-              ∙ sets_more (records_of s T (first_cells n m i)) w.in-Some.entry before c.loop-index.at so_far.next ∙ ap (λ rs. sets before 10 (bytes_of rs)) (sym more);
-        }
+          let more = records_next s T n m i (Some w.in-Some.entry) (rw w.in-Some.is at read) in
+          record {
+            same = c.record_at.ensures.same ∙ so_far.same;
+            next = omega (arith, so_far.next, ap length more, length-append (records_of s T (first_cells n m i)) (w.in-Some.entry ∷ []));
+            written = w.out-is ∙ w.put_record.ensures ∙ ap (λ l. sets l c.loop-index.at (record_bytes w.in-Some.entry)) so_far.written
+                ∙ sets_more (records_of s T (first_cells n m i)) w.in-Some.entry before c.loop-index.at so_far.next ∙ ap (λ rs. sets before 10 (bytes_of rs)) (sym more);
+          }
       | in_default w ↦
-        let more = records_next s T n m i None (sym (none_from c.record_at.result w.in_default.not-Some) ∙ read) ∙ append-nil _ in
-        record {
-          same = c.record_at.ensures.same ∙ so_far.same;
-          next = w.at-is ∙ so_far.next ∙ ap (λ rs. 10 + 5 * length rs) (sym more);
-          written = w.out-is ∙ so_far.written ∙ ap (λ rs. sets before 10 (bytes_of rs)) (sym more);
-        }
+          let more = records_next s T n m i None (sym (none_from c.record_at.result w.in_default.not-Some) ∙ read) ∙ append-nil _ in
+          record {
+            same = c.record_at.ensures.same ∙ so_far.same;
+            next = w.at-is ∙ so_far.next ∙ ap (λ rs. 10 + 5 * length rs) (sym more);
+            written = w.out-is ∙ so_far.written ∙ ap (λ rs. sets before 10 (bytes_of rs)) (sym more);
+          }
     ]
 
 pub returns-clause-written : goal.returns-clause-written
