@@ -81,22 +81,12 @@ pub length-file_of : {S : Type 0} (s : scale.Ghosts S) (T : Tables) → length (
 unfolding file_of
 length-file_of s T = omega (arith, length-bytes_of (table_records s T))
 
--- the records of a structure that is as it was, asked by its own size
-pub same_records : {K : Type 0} (tables : K → Tables) {S : Type 0} (s : scale.Ghosts S) (k before : K) (n m : ℕ) → k ≡ before → n ≡ (tables before).states → m ≡ (tables before).marks →
-    records_of s (tables k) (cells n m) ≡ table_records s (tables before)
-same_records tables s k before n m ek en em =
-    ap (λ x. records_of s (tables x) (cells n m)) ek ∙ ap₂ (λ (a b : ℕ). records_of s (tables before) (cells a b)) en em
-
 -- the header and the records of tables, written one after the other, are their file
-pub file_written : {S : Type 0} (s : scale.Ghosts S) (number n m count : ℕ) (T : Tables) (rs : List Record) (before headed after : List ℕ) →
-    number ≡ s.number → n ≡ T.states → m ≡ T.marks → rs ≡ table_records s T → count ≡ length rs → file_length count ≤ length before →
-    headed ≡ sets before 0 (header_bytes number n m count) → after ≡ sets headed 10 (bytes_of rs) → after ≡ file_of s T ++ drop (file_length count) before
+pub file_written : {S : Type 0} (s : scale.Ghosts S) (T : Tables) (before : List ℕ) → file_length (length (table_records s T)) ≤ length before →
+    sets (sets before 0 (header_bytes s.number T.states T.marks (length (table_records s T)))) 10 (bytes_of (table_records s T)) ≡ file_of s T ++ drop (file_length (length (table_records s T))) before
 unfolding file_of
-file_written s number n m count T rs before headed after es en em er ec room eh ea =
-    let long : 0 + length (header_bytes number n m count ++ bytes_of rs) ≡ 10 + 5 * count = omega (arith, length-append (header_bytes number n m count) (bytes_of rs), length-bytes_of rs) in
-    ea ∙ ap (λ l. sets l 10 (bytes_of rs)) eh
-    ∙ sets-append before 0 10 (header_bytes number n m count) (bytes_of rs) refl
-    ∙ sets-eq (header_bytes number n m count ++ bytes_of rs) before 0 (omega arith)
-    ∙ ap₂ (λ (k end : ℕ). (header_bytes number n m k ++ bytes_of rs) ++ drop end before) ec long
-    ∙ ap₂ (λ (a b : ℕ). (header_bytes number a b (length rs) ++ bytes_of rs) ++ drop (10 + 5 * count) before) en em
-    ∙ ap₂ (λ (a : ℕ) (ss : List Record). (header_bytes a T.states T.marks (length ss) ++ bytes_of ss) ++ drop (10 + 5 * count) before) es er
+file_written s T before room =
+    let rs = table_records s T in
+    let header = header_bytes s.number T.states T.marks (length rs) in
+    let long : 0 + length (file_of s T) ≡ file_length (length rs) = omega (arith, length-file_of s T) in
+    sets-append before 0 10 header (bytes_of rs) refl ∙ sets-eq (file_of s T) before 0 (omega (arith, length-file_of s T)) ∙ ap (λ (end : ℕ). file_of s T ++ drop end before) long
