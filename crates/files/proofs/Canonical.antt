@@ -1,9 +1,8 @@
 -- A file without a fault is the file of the tables that it records.
-use Rattle.std.proofs.Common.{◌≡◌, ℕ, zero, suc, ◌+◌, ◌*◌, ◌/◌, ◌%◌, ◌<◌, ◌≤◌, true, cond, eqb, List, [], ◌∷◌, map, length, get_or, drop, Some, None, Option, sym, refl, ap, ◌∙◌, subst, arith}
+use Rattle.std.proofs.Common.{◌≡◌, ℕ, zero, suc, ◌+◌, ◌*◌, ◌/◌, ◌%◌, ◌<◌, ◌≤◌, cond, eqb, List, [], ◌∷◌, map, length, get_or, drop, Some, None, Option, sym, refl, ap, ◌∙◌, subst, arith}
 use lib.ListN.{length-map}
 use Rattle.std.specs.List.{Contains, All}
 use Rattle.std.specs.Simd.{first_chunks}
-use Rattle.std.specs.declared.cmp.Ordering.TheVariants.{Less}
 use Rattle.std.proofs.lemmas.List.{drop_more, get_or-drop, length-drop}
 use Rattle.std.proofs.lemmas.List.Elements.{All-nil, All-cons, All-head, All-tail, All-contains, All-map}
 use Rattle.grades.specs.declared.scale.Scale as scale
@@ -14,7 +13,7 @@ use Rattle.files.specs.declared.cell.Record.{Record}
 use Rattle.files.specs.declared.entry.Entry.{Entry}
 use Rattle.files.specs.Bounds.{Headed, file_bounded}
 use Rattle.files.specs.Checks.{file_fault}
-use Rattle.files.specs.Entries.{two_bytes, states, marks, count, entries_from, entries, key}
+use Rattle.files.specs.Entries.{states, marks, count, entries_from, entries, key}
 use Rattle.files.specs.Format.{Key, key_order, cell, cell_key, kind_byte, level_at, record_of, bytes_of, table_records, file_of, Before, Ascend, Records}
 use Rattle.files.specs.Recorded.{level_found, code_of, file_tables}
 use Rattle.files.proofs.Ascending.{Ascend_same, Contains-map_back}

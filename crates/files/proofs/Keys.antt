@@ -1,12 +1,12 @@
 -- The order of keys is total, and keys that tie are one.
-use Rattle.std.proofs.Common.{◌≡◌, ℕ, ◌<◌, Bool, true, false, eqb, ltb, ◌⊎◌, refl, ap, inl, inr, sym, arith}
+use Rattle.std.proofs.Common.{◌≡◌, ◌<◌, true, ◌⊎◌, refl, ap, inl, inr, sym, arith}
 use mathlib.Core.Bool.{false≢true}
 use Rattle.std.specs.Cmp.{IsTotalOrder}
-use Rattle.std.specs.Ordering.{nat_cmp, ordering_then, is_lt, ordering_index}
+use Rattle.std.specs.Ordering.{ordering_then, is_lt, ordering_index}
 use Rattle.std.specs.declared.cmp.Ordering.{Ordering}
 use Rattle.std.specs.declared.cmp.Ordering.TheVariants.{Less, Equal, Greater}
 use Rattle.std.proofs.lemmas.Bool.Decides.{nat_tests}
-use Rattle.std.proofs.lemmas.Cmp.{ranked, nat_cmp_total, on_total, then_total, tied_itself}
+use Rattle.std.proofs.lemmas.Cmp.{ranked, nat_cmp_total, on_total, then_total}
 use Rattle.files.specs.Format.{Key, key_order}
 
 pub key_total : IsTotalOrder key_order

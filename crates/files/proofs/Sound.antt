@@ -1,18 +1,17 @@
 -- A file has no fault exactly if its header and each of its records are as they should be.
-use Rattle.std.proofs.Common.{◌≡◌, ℕ, ◌<◌, ◌≤◌, Bool, true, false, ◌||◌, eqb, ltb, ◌⊎◌, List, [], ◌∷◌, length, get_or, is_some, Some, None, Option, unwrap_or, refl, ap, inl, inr, arith, ltb-true, lt-ltb, eq-eqb, eqb-true, le-leb, leb-true}
+use Rattle.std.proofs.Common.{◌≡◌, ℕ, ◌<◌, Bool, true, ◌||◌, eqb, ltb, ◌⊎◌, List, [], ◌∷◌, is_some, Some, None, Option, unwrap_or, refl, ap, inl, inr, ltb-true, lt-ltb, eq-eqb, eqb-true, le-leb}
 use mathlib.Core.Bool.{false≢true}
 use Rattle.std.proofs.lemmas.Bool.{or_cases}
-use Rattle.std.specs.Option.{option_map, option_or}
+use Rattle.std.specs.Option.{option_map}
 use Rattle.grades.specs.Refusals.{needing}
 use Rattle.grades.specs.declared.scale.Scale as scale
 use Rattle.files.specs.declared.cell.Kind.{Kind}
 use Rattle.files.specs.declared.cell.Kind.TheVariants.{Step, Mark}
 use Rattle.files.specs.declared.entry.Entry.{Entry}
-use Rattle.files.specs.Entries.{two_bytes, states, marks, count, entries}
+use Rattle.files.specs.Entries.{states, marks, entries}
 use Rattle.files.specs.Bounds.{needed, neither, unmapped, Headed, is_headed}
 use Rattle.files.specs.Checks.{header_fault, grade_fault, second_limit, follows, record_fault, records_fault, file_fault}
-use Rattle.files.specs.Format.{kind_byte, file_length}
-use Rattle.sheets.specs.Tables.{Limits}
+use Rattle.files.specs.Format.{kind_byte}
 
 -- ---- ladders without a refusal
 

@@ -1,16 +1,14 @@
 -- The tables that a file records: within the limits, and by the levels of grades.
-use Rattle.std.proofs.Common.{◌≡◌, ℕ, ◌<◌, ◌≤◌, Bool, true, false, cond, ltb, ◌⊎◌, List, Some, None, Option, unwrap_or, sym, refl, ap, ◌∙◌, inl, inr, arith, ltb-true, le-ltb, lt-ltb}
+use Rattle.std.proofs.Common.{◌≡◌, ℕ, ◌<◌, ◌≤◌, Bool, true, false, cond, ltb, List, Some, None, Option, unwrap_or, sym, refl, ap, ◌∙◌, arith, ltb-true, lt-ltb}
 use Rattle.grades.specs.declared.scale.Scale as scale
 use Rattle.files.specs.declared.cell.Kind.{Kind}
 use Rattle.files.specs.declared.cell.Kind.TheVariants.{Step, Mark}
 use Rattle.files.specs.declared.cell.Cell.{Cell}
-use Rattle.files.specs.Checks.{file_fault}
 use Rattle.files.specs.Entries.{states, marks, entries}
 use Rattle.files.specs.Format.{cell_key, kind_byte, level_by, level_at, Graded}
 use Rattle.files.specs.Recorded.{code_of, level_found, file_tables}
-use Rattle.files.proofs.Sound.{limit, faultless}
+use Rattle.files.proofs.Sound.{limit}
 use Rattle.sheets.specs.Sheets.{inside}
-use Rattle.sheets.specs.Tables.{Limits, Bounded}
 
 -- ---- inside the numbers
 

@@ -1,5 +1,4 @@
-use Rattle.std.proofs.Common.{ℕ, ap, ◌∙◌, length, length-append, arith, below_more}
-use Rattle.std.specs.Option.{option_to_list}
+use Rattle.std.proofs.Common.{ap, ◌∙◌, length, length-append, arith, below_more}
 use Rattle.files.specs.Format.{level_at, LeadsBack}
 use Rattle.files.specs.Order.{cell_at}
 use Rattle.files.proofs.Records.{records_next, records_all}
