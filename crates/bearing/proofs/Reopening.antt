@@ -8,8 +8,8 @@ use Rattle.files.specs.Saving.{Storable}
 use Rattle.files.specs.Opening.{Opened, Verdict}
 use Rattle.sheets.specs.Tables.{Tables}
 
-module _ {S : Type 0} (s : scale.Ghosts S) (T : Tables) (before after bytes : List ℕ) (long count : ℕ)
-    (saved : Saved s T before after long) (storable : Storable s T count) (part : bytes ≡ take long after) where
+module _ {S : Type 0} (s : scale.Ghosts S) (T : Tables) (before after bytes : List ℕ) (long : ℕ)
+    (saved : Saved s T before after long) (storable : Storable s T) (part : bytes ≡ take long after) where
   is_file : bytes ≡ file_of s T
   is_file = part ∙ ap (take long) saved.bytes ∙ take_at (file_of s T) _ long (sym saved.whole)
 
