@@ -1,5 +1,4 @@
 ghost use Rattle.std.specs.Prelude.{◌≡◌, ◌≤◌, length, OnOk, IfOk, None};
-ghost use Rattle.std.specs.Option.{option_map};
 ghost use Rattle.std.specs.Result.{result_err};
 ghost use Rattle.files.specs.Format.{file_length};
 ghost use Rattle.files.specs.Entries.{states, marks, count, entries_from};
@@ -57,18 +56,14 @@ impl Header {
 
 impl Entry {
     /// Checks the code: a grade has it, and that is above the floor.
-    fn check_grade<S: Scale>(self) -> Result<(), (u16, GradeFault)>
-        ensures { result_err result ≡ option_map (λ fault. (self.index, fault)) (grade_fault S.Scale self.code) }
+    fn check_grade<S: Scale>(self) -> Result<(), GradeFault>
+        ensures { result_err result ≡ grade_fault S.Scale self.code }
     {
-        match S::of_code(self.code) {
-            None => Err((self.index, GradeFault::NoGrade(self.code))),
-            Some(grade) => {
-                if grade.at_most(S::floor()) {
-                    return Err((self.index, GradeFault::Floor(self.code)));
-                }
-                Ok(())
-            }
+        let grade = S::of_code(self.code).ok_or(GradeFault::NoGrade(self.code))?;
+        if grade.at_most(S::floor()) {
+            return Err(GradeFault::Floor(self.code));
         }
+        Ok(())
     }
 
     fn fault(self, cause: RecordCause) -> RecordFault
@@ -100,7 +95,8 @@ impl Entry {
                 return Err(self.fault(RecordCause::Order));
             }
         }
-        self.check_grade::<S>()?;
+        self.check_grade::<S>()
+            .map_err(|fault| (self.index, fault))?;
         Ok(())
     }
 }
