@@ -70,9 +70,9 @@ sets-append l i j [] ws e = let s : j ≡ i = omega arith in ap (λ (k : ℕ). s
 sets-append l i j (v ∷ vs) ws e = sets-append _ (suc i) j vs ws (omega arith)
 
 -- one record more
-pub sets_more : (rs : List Record) (entry : Record) (before : List ℕ) (at : ℕ) → at ≡ file_length (length rs) → sets (sets before 10 (bytes_of rs)) at (record_bytes entry) ≡ sets before 10 (bytes_of (rs ++ entry ∷ []))
-sets_more rs entry before at e =
-    sets-append before 10 at (bytes_of rs) (record_bytes entry) (omega (arith, length-bytes_of rs)) ∙ ap (sets before 10) (sym (bytes_of-append rs (entry ∷ [])))
+pub sets_more : (rs : List Record) (entry : Record) (before out : List ℕ) (at : ℕ) → at ≡ file_length (length rs) → out ≡ sets before 10 (bytes_of rs) → sets out at (record_bytes entry) ≡ sets before 10 (bytes_of (rs ++ entry ∷ []))
+sets_more rs entry before out at next written =
+    ap (λ l. sets l at (record_bytes entry)) written ∙ sets-append before 10 at (bytes_of rs) (record_bytes entry) (omega (arith, length-bytes_of rs)) ∙ ap (sets before 10) (sym (bytes_of-append rs (entry ∷ [])))
 
 -- ---- the whole file
 

@@ -1,5 +1,5 @@
-use Rattle.std.proofs.Common.{◌≡◌, ◌+◌, ◌*◌, ◌≤◌, [], ◌∷◌, length, Some, None, Option, sym, refl, ap, ◌∙◌, length-append, arith, rules}
-use Rattle.std.proofs.lemmas.List.{append-nil}
+use Rattle.std.proofs.Common.{◌≡◌, ◌+◌, ◌*◌, ◌≤◌, [], ◌∷◌, ◌++◌, length, Some, None, Option, sym, refl, ap, ◌∙◌, length-append, arith, rules}
+use Rattle.std.proofs.lemmas.List.{append-nil, length_push}
 use Rattle.std.proofs.lemmas.List.Edits.{sets}
 use Rattle.files.specs.Format.{recorded, records_of, record_bytes, bytes_of}
 use Rattle.files.specs.Order.{cell_at, first_cells}
@@ -37,15 +37,14 @@ loop-index-preserved g c =
     let read : c.record_at.result ≡ recorded s T (cell_at n m i) = rw so_far.same at c.record_at.ensures.value in
     elim c.match-record_at.branch [
       | in-Some w ↦
-          let more = records_next s T n m i (Some w.in-Some.entry) (rw w.in-Some.is at read) in
+          let more : records_of s T (first_cells n m (i + 1)) ≡ records_of s T (first_cells n m i) ++ (w.in-Some.entry ∷ []) = records_next s T n m i (Some w.in-Some.entry) (rw w.in-Some.is at read) in
           record {
             same = c.record_at.ensures.same ∙ so_far.same;
-            next = omega (arith, so_far.next, ap length more, length-append (records_of s T (first_cells n m i)) (w.in-Some.entry ∷ []));
-            written = w.out-is ∙ w.put_record.ensures ∙ ap (λ l. sets l c.loop-index.at (record_bytes w.in-Some.entry)) so_far.written
-                ∙ sets_more (records_of s T (first_cells n m i)) w.in-Some.entry before c.loop-index.at so_far.next ∙ ap (λ rs. sets before 10 (bytes_of rs)) (sym more);
+            next = rw more (omega (arith, so_far.next, length_push (records_of s T (first_cells n m i)) w.in-Some.entry));
+            written = rw (w.out-is, w.put_record.ensures, more) (sets_more (records_of s T (first_cells n m i)) w.in-Some.entry before c.loop-index.out c.loop-index.at so_far.next so_far.written);
           }
       | in_default w ↦
-          let more = records_next s T n m i None (sym (none_from c.record_at.result w.in_default.not-Some) ∙ read) ∙ append-nil _ in
+          let more : records_of s T (first_cells n m (i + 1)) ≡ records_of s T (first_cells n m i) = records_next s T n m i None (sym (none_from c.record_at.result w.in_default.not-Some) ∙ read) ∙ append-nil _ in
           record {
             same = c.record_at.ensures.same ∙ so_far.same;
             next = w.at-is ∙ so_far.next ∙ ap (λ rs. 10 + 5 * length rs) (sym more);
