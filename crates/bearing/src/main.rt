@@ -7,7 +7,7 @@ ghost use Rattle.sheets.specs.Tables.{all_floor};
 ghost use Rattle.bearing.specs.Bearing.{Becomes, with_steps, with_marks, bearing_steps, bearing_marks, bearing, length_of};
 
 use anyhow::anyhow;
-use files::{ThousandthsView, save};
+use files::{HEADER, RECORD, ThousandthsView, save};
 use grades::{Refusal, Scale, Thousandths, ThousandthsToWords};
 use sheets::{DrawRefusal, MarkRefusal, Sheet, Size, Structure, Translated};
 use std::fmt::Display;
@@ -19,10 +19,6 @@ const STATES: usize = 3;
 const MARKS: usize = 2;
 
 const CELLS: usize = 15;
-
-const HEADER: usize = 10;
-
-const RECORD: usize = 5;
 
 /// Why the bearing sheet is not drawn.
 #[derive(Clone, Copy, Debug, Error)]

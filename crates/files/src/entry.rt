@@ -3,10 +3,10 @@ ghost use Rattle.files.specs.Format.{record_position, file_length};
 ghost use Rattle.files.specs.Entries.{count, raw_records, entry_of, key};
 
 /// The length of a header.
-pub(crate) const HEADER: usize = 10;
+pub const HEADER: usize = 10;
 
 /// The length of a record.
-pub(crate) const RECORD: usize = 5;
+pub const RECORD: usize = 5;
 
 /// Where the record of an index begins.
 pub(crate) fn record_position(index: u16) -> usize
