@@ -60,6 +60,7 @@ fn count_records<K: Structure>(structure: &mut K, size: Size) -> usize
     ensures graded { GradedTo K.Grade.Scale (K.Structure.tables structure.old) size.states size.marks (size.states * (size.states + size.marks)) }
     ensures same { structure.new ≡ structure.old }
 {
+    // no chain: after one, nothing is known of a structure that its closure borrows as `&mut`
     let mut count = 0;
     for index in 0..size.cells() {
         if record_at(structure, size, index).is_some() {
@@ -75,6 +76,7 @@ fn put_records<K: Structure>(structure: &mut K, size: Size, out: &mut [u8])
     ensures written { out.new ≡ sets out.old 10 (bytes_of (records_of K.Grade.Scale (K.Structure.tables structure.old) (cells size.states size.marks))) }
     ensures same { structure.new ≡ structure.old }
 {
+    // no chain: after one, nothing is known of what its closure borrows as `&mut`
     let mut at = HEADER;
     for index in 0..size.cells() {
         if let Some(entry) = record_at(structure, size, index) {

@@ -3,6 +3,7 @@ ghost use Rattle.std.specs.Result.{result_err};
 ghost use Rattle.files.specs.Bounds.{own_code_within, file_bounded};
 ghost use Rattle.files.specs.Checks.{file_fault};
 ghost use Rattle.files.specs.Entries.{states, marks, code_at, entries};
+ghost use Rattle.files.specs.Format.{level_by};
 ghost use Rattle.files.specs.Opening.{Opened, Verdict};
 ghost use Rattle.files.specs.Recorded.{code_of, level_found, file_tables};
 ghost use Rattle.std.proofs.Props.{props};
@@ -23,6 +24,7 @@ struct OpenFile<'a, S: Scale> {
     ghost passed: { file_fault S.Scale bytes.now ≡ None } by { Prim.hlevel props },
 }
 
+// written out, since no derive covers a ghost field over a type parameter
 impl<'a, S: Scale> Clone for OpenFile<'a, S> {
     ghost is_clone = { λ file copy. copy ≡ file };
 
@@ -98,23 +100,18 @@ impl<'a, S: Scale> OpenFile<'a, S> {
             .unwrap_or(S::floor())
     }
 
-    fn step(&self, from: usize, to: usize) -> S
-        ensures { S.Scale.level result ≡ (file_tables S.Scale self.now.bytes.now).step from to }
+    /// The grade of a step or of a mark.
+    fn cell(&self, kind: Kind, first: usize, second: usize) -> S
+        ensures { S.Scale.level result ≡ level_by (file_tables S.Scale self.now.bytes.now) kind first second }
     {
-        let n = self.states();
-        if from >= n || to >= n {
+        let limit = match kind {
+            Kind::Step => self.states(),
+            Kind::Mark => self.marks(),
+        };
+        if first >= self.states() || second >= limit {
             return S::floor();
         }
-        self.grade((Kind::Step as u8, from as u8, to as u8))
-    }
-
-    fn mark(&self, state: usize, which: usize) -> S
-        ensures { S.Scale.level result ≡ (file_tables S.Scale self.now.bytes.now).mark state which }
-    {
-        if state >= self.states() || which >= self.marks() {
-            return S::floor();
-        }
-        self.grade((Kind::Mark as u8, state as u8, which as u8))
+        self.grade((kind as u8, first as u8, second as u8))
     }
 }
 
@@ -154,11 +151,11 @@ impl<'a> Structure for ThousandthsView<'a> {
     }
 
     fn step_grade(&mut self, from: usize, to: usize) -> Thousandths {
-        self.file.step(from, to)
+        self.file.cell(Kind::Step, from, to)
     }
 
     fn mark_grade(&mut self, state: usize, which: usize) -> Thousandths {
-        self.file.mark(state, which)
+        self.file.cell(Kind::Mark, state, which)
     }
 }
 
@@ -196,11 +193,11 @@ impl<'a> Structure for WordsView<'a> {
     }
 
     fn step_grade(&mut self, from: usize, to: usize) -> Words {
-        self.file.step(from, to)
+        self.file.cell(Kind::Step, from, to)
     }
 
     fn mark_grade(&mut self, state: usize, which: usize) -> Words {
-        self.file.mark(state, which)
+        self.file.cell(Kind::Mark, state, which)
     }
 }
 
@@ -238,10 +235,10 @@ impl<'a> Structure for YesNoView<'a> {
     }
 
     fn step_grade(&mut self, from: usize, to: usize) -> YesNo {
-        self.file.step(from, to)
+        self.file.cell(Kind::Step, from, to)
     }
 
     fn mark_grade(&mut self, state: usize, which: usize) -> YesNo {
-        self.file.mark(state, which)
+        self.file.cell(Kind::Mark, state, which)
     }
 }

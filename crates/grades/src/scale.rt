@@ -32,6 +32,7 @@ pub trait Scale: Copy {
     fn height() -> u16
         ensures { result ≡ height };
 
+    // not std's order: `==` of two `Thousandths` would tell numbers of one level apart
     fn at_most(self, other: Self) -> bool
         ensures { result ≡ order self other };
 
@@ -48,6 +49,7 @@ pub trait Scale: Copy {
         ensures { result ≡ code (level self) };
 
     /// The grade of a code, or nothing where no grade has that code.
+    // no `TryFrom`: its error would say no more than `None`, and its body would be the same `match`
     fn of_code(wanted: u16) -> Option<Self>
         ensures grade { MatchOption result ((x : Self) → code (level x) ≢ wanted) (λ grade. code (level grade) ≡ wanted) }
         ensures decoded { option_map level result ≡ decode wanted };

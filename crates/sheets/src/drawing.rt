@@ -24,6 +24,7 @@ fn clear<S: Scale>(grades: &mut [S])
     ensures cells { (i : ℕ) → slice_index (mapped S.Scale.level grades.new) i ≡ 0 }
     ensures floors { (size : _) → memory_tables S.Scale size grades.new ≡ all_floor size.states size.marks S.Scale.height }
 {
+    // no `fill`: it asks that a clone cannot fail, which a `Scale` does not promise
     for grade in grades.iter_mut() {
         *grade = S::floor();
     }
