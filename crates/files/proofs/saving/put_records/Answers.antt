@@ -1,7 +1,7 @@
-use Rattle.std.proofs.Common.{◌≡◌, ◌+◌, ◌*◌, ◌≤◌, [], ◌∷◌, ◌++◌, length, Some, None, Option, sym, refl, ap, ◌∙◌, length-append, arith, rules}
+use Rattle.std.proofs.Common.{◌≡◌, ◌+◌, ◌*◌, [], ◌∷◌, ◌++◌, length, Some, None, Option, sym, refl, ap, ◌∙◌, arith}
 use Rattle.std.proofs.lemmas.List.{append-nil, length_push}
 use Rattle.std.proofs.lemmas.List.Edits.{sets}
-use Rattle.files.specs.Format.{recorded, records_of, record_bytes, bytes_of}
+use Rattle.files.specs.Format.{recorded, records_of, bytes_of}
 use Rattle.files.specs.Order.{cell_at, first_cells}
 use Rattle.files.proofs.Records.{records_next, records_all, records_beyond, sets_more}
 use Rattle.files.proofs.saving.put_records.Goals as goal
