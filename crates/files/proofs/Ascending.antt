@@ -8,7 +8,7 @@ use Rattle.files.specs.declared.cell.Cell.{Cell}
 use Rattle.files.specs.declared.cell.Record.{Record}
 use Rattle.files.specs.Format.{key_order, cell_key, Before, Ascend}
 use Rattle.files.proofs.Keys.{key_total}
-use Rattle.files.proofs.Lookups.{Contains_cases, Contains_first, Contains_later}
+use Rattle.files.proofs.Lookups.{Contains-cons_cases, Contains-head, Contains-cons}
 
 before_apart : (a b : Cell) → Before a b → a ≡ b → ⊥
 before_apart a b l e =
@@ -23,8 +23,8 @@ nothing_has x has = omega (arith, has.1)
 
 pub Ascend_same : (xs ys : List Record) → Ascend xs → Ascend ys → ((r : Record) → Contains xs r → Contains ys r) → ((r : Record) → Contains ys r → Contains xs r) → xs ≡ ys
 Ascend_same [] [] ux uy there back = refl
-Ascend_same [] (y ∷ ys) ux uy there back = absurd (nothing_has y (back y (Contains_first y ys)))
-Ascend_same (x ∷ xs) [] ux uy there back = absurd (nothing_has x (there x (Contains_first x xs)))
+Ascend_same [] (y ∷ ys) ux uy there back = absurd (nothing_has y (back y (Contains-head y ys)))
+Ascend_same (x ∷ xs) [] ux uy there back = absurd (nothing_has x (there x (Contains-head x xs)))
 Ascend_same (x ∷ xs) (y ∷ ys) ux uy there back =
     ap₂ (λ r rs. r ∷ rs) first (Ascend_same xs ys ux.1 uy.1 (λ r has. later r has) (λ r has. earlier r has))
   where
@@ -35,7 +35,7 @@ Ascend_same (x ∷ xs) (y ∷ ys) ux uy there back =
     after_y r has = All-contains (λ later. Before y.cell later.cell) ys r uy.0 has
 
     first : x ≡ y
-    first = by (Contains_cases y ys x (there x (Contains_first x xs))) (Contains_cases x xs y (back y (Contains_first y ys)))
+    first = by (Contains-cons_cases y ys x (there x (Contains-head x xs))) (Contains-cons_cases x xs y (back y (Contains-head y ys)))
       where
         by : (y ≡ x) ⊎ Contains ys x → (x ≡ y) ⊎ Contains xs y → x ≡ y
         by (inl e) q = sym e
@@ -43,14 +43,14 @@ Ascend_same (x ∷ xs) (y ∷ ys) ux uy there back =
         by (inr p) (inr q) = absurd (before_once y.cell x.cell (after_y x p) (after_x y q))
 
     later : (r : Record) → Contains xs r → Contains ys r
-    later r has = by (Contains_cases y ys r (there r (Contains_later x xs r has)))
+    later r has = by (Contains-cons_cases y ys r (there r (Contains-cons x xs r has)))
       where
         by : (y ≡ r) ⊎ Contains ys r → Contains ys r
         by (inl e) = absurd (before_apart x.cell r.cell (after_x r has) (ap (λ (s : Record). s.cell) (first ∙ e)))
         by (inr p) = p
 
     earlier : (r : Record) → Contains ys r → Contains xs r
-    earlier r has = by (Contains_cases x xs r (back r (Contains_later y ys r has)))
+    earlier r has = by (Contains-cons_cases x xs r (back r (Contains-cons y ys r has)))
       where
         by : (x ≡ r) ⊎ Contains xs r → Contains xs r
         by (inl e) = absurd (before_apart y.cell r.cell (after_y r has) (ap (λ (s : Record). s.cell) (sym first ∙ e)))
@@ -58,8 +58,8 @@ Ascend_same (x ∷ xs) (y ∷ ys) ux uy there back =
 
 pub Contains-map_back : {X Y : Type 0} (f : X → Y) (xs : List X) (y : Y) → Contains (map f xs) y → (x : X) × Contains xs x × (f x ≡ y)
 Contains-map_back f [] y has = absurd (nothing_has y has)
-Contains-map_back f (x ∷ xs) y has = by (Contains_cases (f x) (map f xs) y has) (Contains-map_back f xs y)
+Contains-map_back f (x ∷ xs) y has = by (Contains-cons_cases (f x) (map f xs) y has) (Contains-map_back f xs y)
   where
     by : (f x ≡ y) ⊎ Contains (map f xs) y → (Contains (map f xs) y → (z : _) × Contains xs z × (f z ≡ y)) → (z : _) × Contains (x ∷ xs) z × (f z ≡ y)
-    by (inl e) later = (x, Contains_first x xs, e)
-    by (inr h) later = let z = later h in (z.0, Contains_later x xs z.0 z.1, z.2)
+    by (inl e) later = (x, Contains-head x xs, e)
+    by (inr h) later = let z = later h in (z.0, Contains-cons x xs z.0 z.1, z.2)

@@ -22,15 +22,15 @@ use Rattle.files.proofs.Sound.{Sound, faultless}
 
 -- ---- what a list has
 
-pub Contains_cases : {X : Type 0} (x : X) (xs : List X) (y : X) → Contains (x ∷ xs) y → (x ≡ y) ⊎ Contains xs y
-Contains_cases x xs y (zero, h, at) = inl at
-Contains_cases x xs y (suc k, h, at) = inr (k, omega arith, at)
+pub Contains-cons_cases : {X : Type 0} (x : X) (xs : List X) (y : X) → Contains (x ∷ xs) y → (x ≡ y) ⊎ Contains xs y
+Contains-cons_cases x xs y (zero, h, at) = inl at
+Contains-cons_cases x xs y (suc k, h, at) = inr (k, omega arith, at)
 
-pub Contains_first : {X : Type 0} (x : X) (xs : List X) → Contains (x ∷ xs) x
-Contains_first x xs = (0, omega arith, refl)
+pub Contains-head : {X : Type 0} (x : X) (xs : List X) → Contains (x ∷ xs) x
+Contains-head x xs = (0, omega arith, refl)
 
-pub Contains_later : {X : Type 0} (x : X) (xs : List X) (y : X) → Contains xs y → Contains (x ∷ xs) y
-Contains_later x xs y found = (suc found.0, omega (arith, found.1), found.2)
+pub Contains-cons : {X : Type 0} (x : X) (xs : List X) (y : X) → Contains xs y → Contains (x ∷ xs) y
+Contains-cons x xs y found = (suc found.0, omega (arith, found.1), found.2)
 
 -- ---- the first record of a key
 
@@ -39,12 +39,12 @@ code_found [] wanted c none = absurd (none-some c none)
 code_found (e ∷ es) wanted c is = by (key_order (key e) wanted) refl is (code_found es wanted c)
   where
     later : (code_of es wanted ≡ Some c → (f : Entry) × Contains es f × (key f ≡ wanted) × (f.code ≡ c)) → code_of es wanted ≡ Some c → (f : Entry) × Contains (e ∷ es) f × (key f ≡ wanted) × (f.code ≡ c)
-    later rest here = let f = rest here in (f.0, Contains_later e es f.0 f.1, f.2, f.3)
+    later rest here = let f = rest here in (f.0, Contains-cons e es f.0 f.1, f.2, f.3)
 
     by : (o : Ordering) → key_order (key e) wanted ≡ o → cond (is_eq o) (Some e.code) (code_of es wanted) ≡ Some c →
         (code_of es wanted ≡ Some c → (f : Entry) × Contains es f × (key f ≡ wanted) × (f.code ≡ c)) → (f : Entry) × Contains (e ∷ es) f × (key f ≡ wanted) × (f.code ≡ c)
     by Less same here rest = later rest here
-    by Equal same here rest = (e, Contains_first e es, same_from_tied (key e) wanted same, cc)
+    by Equal same here rest = (e, Contains-head e es, same_from_tied (key e) wanted same, cc)
     by Greater same here rest = later rest here
 
 module _ {S : Type 0} (s : scale.Ghosts S) (n m : ℕ) where
@@ -58,7 +58,7 @@ module _ {S : Type 0} (s : scale.Ghosts S) (n m : ℕ) where
 
   pub code_had : (before : Option Entry) (es : List Entry) (e : Entry) → Sound s n m before es → Contains es e → code_of es (key e) ≡ Some e.code
   code_had before [] e x has = absurd (omega (arith, has.1))
-  code_had before (f ∷ es) e x has = by (Contains_cases f es e has) (code_had (Some f) es e x.2)
+  code_had before (f ∷ es) e x has = by (Contains-cons_cases f es e has) (code_had (Some f) es e x.2)
     where
       by : (f ≡ e) ⊎ Contains es e → (Contains es e → code_of es (key e) ≡ Some e.code) → code_of (f ∷ es) (key e) ≡ Some e.code
       by (inl same) later = rw (ap (λ (k : Entry). key_order (key k) (key e)) same ∙ tied_itself key_total (key e)) (ap (λ (y : Entry). Some y.code) same)
@@ -73,7 +73,7 @@ raw_key raw = key (entry_of 0 raw)
 has_raw : (i : ℕ) (raws : List (List ℕ)) (k : ℕ) (d : List ℕ) (j : ℕ) → k < length raws → i + k ≡ j → Contains (entries_from i raws) (entry_of j (get_or raws k d))
 has_raw i [] k d j h e = absurd (omega arith)
 has_raw i (raw ∷ raws) zero d j h e = let same : i ≡ j = omega arith in (0, omega arith, ap (λ (x : ℕ). entry_of x raw) same)
-has_raw i (raw ∷ raws) (suc k) d j h e = Contains_later _ _ _ (has_raw (i + 1) raws k d j (omega arith) (omega arith))
+has_raw i (raw ∷ raws) (suc k) d j h e = Contains-cons _ _ _ (has_raw (i + 1) raws k d j (omega arith) (omega arith))
 
 none_has : (wanted : Key) (i : ℕ) (raws : List (List ℕ)) → All (λ raw. is_eq (key_order (raw_key raw) wanted) ≡ false) raws → code_of (entries_from i raws) wanted ≡ None
 none_has wanted i [] all = refl

@@ -114,7 +114,7 @@ fn check_records<S: Scale>(header: Header, raws: &[[u8; 5]]) -> Result<(), Recor
     Ok(())
 }
 
-/// The header, and then the records.
+/// Finds the first fault: of the header, or else of the records in turn.
 fn find_fault<S: Scale>(bytes: &[u8]) -> Result<(), FileFault>
     ensures { result_err result ≡ file_fault S.Scale bytes.now }
 {
@@ -123,7 +123,7 @@ fn find_fault<S: Scale>(bytes: &[u8]) -> Result<(), FileFault>
     Ok(())
 }
 
-/// Passes the files without a fault.
+/// Answers the first fault; a file without one is the file of what it records.
 fn check_all<S: Scale>(bytes: &[u8]) -> Result<(), FileFault>
     ensures { Verdict S.Scale bytes.now (result_err result) }
 {

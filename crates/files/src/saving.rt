@@ -49,7 +49,8 @@ fn put_header(out: &mut [u8], number: u8, size: Size, count: u16)
 
 fn put_record(out: &mut [u8], at: usize, entry: Record)
     requires { at + 5 ≤ length out.old }
-    ensures { out.new ≡ sets out.old at (record_bytes entry) }
+    ensures written { out.new ≡ sets out.old at (record_bytes entry) }
+    ensures room { at + 5 ≤ length out.new }
 {
     out[at..at + RECORD].copy_from_slice(&entry.to_bytes());
 }

@@ -1,7 +1,7 @@
-use Rattle.std.proofs.Common.{◌≡◌, ◌+◌, ◌*◌, ◌≤◌, [], ◌∷◌, ◌++◌, length, Some, None, Option, sym, refl, ap, ◌∙◌, length-append, arith, rules}
+use Rattle.std.proofs.Common.{◌≡◌, ◌+◌, ◌*◌, [], ◌∷◌, ◌++◌, length, Some, None, Option, sym, refl, ap, ◌∙◌, arith}
 use Rattle.std.proofs.lemmas.List.{append-nil, length_push}
 use Rattle.std.proofs.lemmas.List.Edits.{sets}
-use Rattle.files.specs.Format.{recorded, records_of, record_bytes, bytes_of}
+use Rattle.files.specs.Format.{recorded, records_of, bytes_of}
 use Rattle.files.specs.Order.{cell_at, first_cells}
 use Rattle.files.proofs.Records.{records_next, records_all, records_beyond, sets_more}
 use Rattle.files.proofs.saving.put_records.Goals as goal
@@ -16,14 +16,6 @@ put_record-requires g c =
     let so_far = c.loop-index.invariant in
     let is = rw (so_far.same, c.in-Some.is) at c.record_at.ensures.value in
     omega (arith, c.requires, so_far.next, records_beyond g.K.Grade.Scale (g.K.Structure.tables c.args.structure.now) c.args.size.states c.args.size.marks c.loop-index.index c.in-Some.entry (omega arith) is)
-
-pub overflow_add-at : goal.overflow_add-at
-overflow_add-at g c =
-    let so_far = c.loop-index.invariant in
-    let is = rw (so_far.same, c.in-Some.is) at c.record_at.ensures.value in
-    let beyond = records_beyond g.K.Grade.Scale (g.K.Structure.tables c.args.structure.now) c.args.size.states c.args.size.marks c.loop-index.index c.in-Some.entry (omega arith) is in
-    let room : c.loop-index.at + 5 ≤ length c.loop-index.out = omega (arith, c.requires, so_far.next) in
-    search rules
 
 pub loop-index-preserved : goal.loop-index-preserved
 loop-index-preserved g c =
@@ -41,7 +33,7 @@ loop-index-preserved g c =
           record {
             same = c.record_at.ensures.same ∙ so_far.same;
             next = rw more (omega (arith, so_far.next, length_push (records_of s T (first_cells n m i)) w.in-Some.entry));
-            written = rw (w.out-is, w.put_record.ensures, more) (sets_more (records_of s T (first_cells n m i)) w.in-Some.entry before c.loop-index.out c.loop-index.at so_far.next so_far.written);
+            written = rw (w.out-is, w.put_record.ensures.written, more) (sets_more (records_of s T (first_cells n m i)) w.in-Some.entry before c.loop-index.out c.loop-index.at so_far.next so_far.written);
           }
       | in_default w ↦
           let more : records_of s T (first_cells n m (i + 1)) ≡ records_of s T (first_cells n m i) = records_next s T n m i None (sym (none_from c.record_at.result w.in_default.not-Some) ∙ read) ∙ append-nil _ in
