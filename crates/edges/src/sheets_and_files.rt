@@ -113,7 +113,7 @@ fn room_for_the_file(rt: HostRuntime) -> Result<(), Fail> {
     assert!(rt; sheet.draw(0, 0, Thousandths(1001)).is_ok());
     assert_eq!(rt; saved(&mut sheet, &mut out[0..14]), Err(24));
     assert_eq!(rt; out, [87, 83, 72, 1, 0, 1, 1, 0, 0, 0, 9, 9, 9, 9, 9, 9]);
-    let mut again = [9; 16];
+    let mut again = out;
     assert_eq!(rt; saved(&mut sheet, &mut again[0..15]), Ok(15));
     assert_eq!(rt;
         again,

@@ -20,7 +20,8 @@ use Rattle.files.proofs.Ascending.{Ascend_same, Contains-map_back}
 use Rattle.files.proofs.Laws.{records_are, Contains-map}
 use Rattle.files.proofs.Lookups.{all_after, code_found, code_had}
 use Rattle.files.proofs.Sound.{Proper, Sound, limit, faultless}
-use Rattle.files.proofs.Tabled.{Codes, inside_in, found_above, level_recorded, recorded_above}
+use Rattle.files.proofs.Tabled.{Codes, found_above, level_recorded, recorded_above}
+use Rattle.sheets.specs.Bounds.{inside_in}
 
 -- ---- records by their kinds
 

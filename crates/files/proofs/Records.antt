@@ -7,6 +7,7 @@ use Rattle.std.specs.Option.{option_to_list}
 use Rattle.std.proofs.lemmas.List.FromFn.{map-range_with_len_more}
 use Rattle.std.proofs.lemmas.List.Elements.{filter-append}
 use Rattle.grades.specs.declared.scale.Scale as scale
+use Rattle.std.proofs.lemmas.Grind.{flat_map-append}
 use Rattle.files.specs.declared.cell.Cell.{Cell}
 use Rattle.files.specs.declared.cell.Record.{Record}
 use Rattle.files.specs.Format.{cells, above_floor, record_of, recorded, records_of, record_bytes, bytes_of, header_bytes, table_records, file_of, file_length}
@@ -56,10 +57,6 @@ module _ {S : Type 0} (s : scale.Ghosts S) (T : Tables) (n m : ℕ) where
 
 -- ---- bytes
 
-pub bytes_of-append : (rs ss : List Record) → bytes_of (rs ++ ss) ≡ bytes_of rs ++ bytes_of ss
-bytes_of-append [] ss = refl
-bytes_of-append (r ∷ rs) ss = ap (λ bs. record_bytes r ++ bs) (bytes_of-append rs ss)
-
 pub length-bytes_of : (rs : List Record) → length (bytes_of rs) ≡ 5 * length rs
 length-bytes_of [] = refl
 length-bytes_of (r ∷ rs) = omega (arith, length-bytes_of rs)
@@ -72,7 +69,7 @@ sets-append l i j (v ∷ vs) ws e = sets-append _ (suc i) j vs ws (omega arith)
 -- one record more
 pub sets_more : (rs : List Record) (entry : Record) (before out : List ℕ) (at : ℕ) → at ≡ file_length (length rs) → out ≡ sets before 10 (bytes_of rs) → sets out at (record_bytes entry) ≡ sets before 10 (bytes_of (rs ++ entry ∷ []))
 sets_more rs entry before out at next written =
-    ap (λ l. sets l at (record_bytes entry)) written ∙ sets-append before 10 at (bytes_of rs) (record_bytes entry) (omega (arith, length-bytes_of rs)) ∙ ap (sets before 10) (sym (bytes_of-append rs (entry ∷ [])))
+    ap (λ l. sets l at (record_bytes entry)) written ∙ sets-append before 10 at (bytes_of rs) (record_bytes entry) (omega (arith, length-bytes_of rs)) ∙ ap (sets before 10) (sym (flat_map-append record_bytes rs (entry ∷ [])))
 
 -- ---- the whole file
 

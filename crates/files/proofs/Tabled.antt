@@ -1,5 +1,5 @@
 -- The tables that a file records: within the limits, and by the levels of grades.
-use Rattle.std.proofs.Common.{◌≡◌, ℕ, ◌<◌, ◌≤◌, Bool, true, false, cond, ltb, List, Some, None, Option, unwrap_or, sym, refl, ap, ◌∙◌, arith, ltb-true, lt-ltb}
+use Rattle.std.proofs.Common.{◌≡◌, ℕ, ◌<◌, ◌≤◌, Bool, true, false, cond, ltb, List, Some, None, Option, unwrap_or, sym, refl, ap, ◌∙◌, arith, ltb-true}
 use Rattle.grades.specs.declared.scale.Scale as scale
 use Rattle.files.specs.declared.cell.Kind.{Kind}
 use Rattle.files.specs.declared.cell.Kind.TheVariants.{Step, Mark}
@@ -8,12 +8,10 @@ use Rattle.files.specs.Entries.{states, marks, entries}
 use Rattle.files.specs.Format.{cell_key, kind_byte, level_by, level_at, Graded}
 use Rattle.files.specs.Recorded.{code_of, level_found, file_tables}
 use Rattle.files.proofs.Sound.{limit}
+use Rattle.sheets.specs.Bounds.{inside_in}
 use Rattle.sheets.specs.Sheets.{inside}
 
 -- ---- inside the numbers
-
-pub inside_in : (s n c w p : ℕ) → s < n → c < w → inside s n c w p ≡ p
-inside_in s n c w p hs hc = rw (lt-ltb s n hs, lt-ltb c w hc)
 
 inside_above : (s n c w p : ℕ) → 0 < inside s n c w p → (s < n) × (c < w)
 inside_above s n c w p = by (ltb s n) (ltb c w) refl refl

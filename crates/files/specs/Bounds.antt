@@ -1,8 +1,8 @@
 -- The tables of a file without a fault lie within the limits: lemmas for the law of its views.
-use Rattle.std.specs.Prelude.{◌≡◌, ℕ, ◌≤◌, Bool, true, false, cond, ◌⊎◌, List, length, get_or, Some, None, Option, ltb, leb, refl}
+use Rattle.std.specs.Prelude.{◌≡◌, ℕ, ◌≤◌, Bool, true, false, List, length, get_or, Some, None, Option, leb, refl}
 use Rattle.std.specs.Option.{unwrap_or, option_map, option_or}
-use Rattle.std.proofs.Common.{sym, arith, inl, inr, le-ltb, leb-true, eqb-true}
-use Rattle.std.proofs.lemmas.Option.{none-some}
+use Rattle.std.proofs.Common.{sym, arith, leb-true, eqb-true}
+use Rattle.std.proofs.lemmas.Option.{none-some, cond_some}
 use Rattle.grades.specs.Refusals.{needing}
 use Rattle.grades.specs.Levels.{level_of_code}
 use Rattle.grades.specs.declared.scale.Scale as scale
@@ -10,7 +10,7 @@ use Rattle.files.specs.Checks.{header_fault, records_fault, file_fault}
 use Rattle.files.specs.Entries.{two_bytes, states, marks, count, entries}
 use Rattle.files.specs.Format.{file_length}
 use Rattle.files.specs.Recorded.{code_of, level_found, file_tables}
-use Rattle.sheets.specs.Sheets.{inside}
+use Rattle.sheets.specs.Bounds.{inside_out, inside_within}
 use Rattle.sheets.specs.Tables.{Limits, Bounded}
 
 -- ---- ladders without a refusal
@@ -68,23 +68,9 @@ is_headed s bytes none =
 
 -- ---- the levels
 
-inside_out : (s n c w p : ℕ) → (n ≤ s) ⊎ (w ≤ c) → inside s n c w p ≡ 0
-inside_out s n c w p (inl h) = rw (le-ltb s n h)
-inside_out s n c w p (inr h) = elim (ltb s n) as (λ v. cond v (cond (ltb c w) p 0) 0 ≡ 0) [ true ↦ rw (le-ltb c w h) | false ↦ refl ]
-
-inside_within : (s n c w p h : ℕ) → p ≤ h → inside s n c w p ≤ h
-inside_within s n c w p h l = elim (ltb s n) as (λ v. cond v (cond (ltb c w) p 0) 0 ≤ h) [
-  | true ↦ elim (ltb c w) as (λ v. cond v p 0 ≤ h) [ true ↦ l | false ↦ omega arith ]
-  | false ↦ omega arith
-]
-
 -- a code that is its level is within the height
 pub own_code_within : (height c p : ℕ) → level_of_code height c ≡ Some p → p ≤ height
-own_code_within height c p = by (leb c height) (leb-true c height)
-  where
-    by : (b : Bool) → (b ≡ true → c ≤ height) → cond b (Some c) None ≡ Some p → p ≤ height
-    by true within e = let same : p ≡ c = cc in omega (arith, within refl)
-    by false within e = absurd (none-some p e)
+own_code_within height c p e = let is = cond_some (leb c height) c p e in omega (arith, leb-true c height is.0, is.1)
 
 module _ {S : Type 0} (s : scale.Ghosts S) (within : (c p : ℕ) → s.decode c ≡ Some p → p ≤ s.height) (bytes : List ℕ) where
   level_within : (found : Option ℕ) → level_found s found ≤ s.height

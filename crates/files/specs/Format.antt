@@ -1,6 +1,6 @@
 -- The sheet file: a header of ten bytes, and then a record of five bytes for each step and each mark above the floor.
 use Rattle.std.specs.Prelude.{◌≡◌, ℕ, zero, suc, ◌+◌, ◌*◌, ◌/◌, ◌%◌, ◌<◌, ◌≤◌, Bool, cond, List, [], ◌∷◌, ◌++◌, map, length, drop, Some, None, filter, Option, nat_lt}
-use Rattle.std.specs.List.{range_with_len, Contains, All}
+use Rattle.std.specs.List.{range_with_len, flat_map, Contains, All}
 use Rattle.std.specs.Ordering.{nat_cmp, ordering_then}
 use Rattle.std.specs.declared.cmp.Ordering.{Ordering}
 use Rattle.std.specs.declared.cmp.Ordering.TheVariants.{Less}
@@ -67,8 +67,7 @@ abbrev pub record_bytes : Record → List ℕ
 record_bytes r = kind_byte r.cell.kind ∷ (r.cell.first ∷ (r.cell.second ∷ low_first r.code))
 
 abbrev pub bytes_of : List Record → List ℕ
-bytes_of [] = []
-bytes_of (r ∷ rs) = record_bytes r ++ bytes_of rs
+bytes_of = flat_map record_bytes
 
 -- the letters WSH, the version 1, the scale's number, the sizes, and how many records follow
 abbrev pub header_bytes : (number n m count : ℕ) → List ℕ

@@ -25,7 +25,7 @@ pub(crate) fn raw_records(bytes: &[u8]) -> &[[u8; 5]]
 }
 
 /// By which records are ordered: kind, first number, second number.
-// bytes as they are, so that a search compares them where they lie
+// the raw bytes, which a search compares without reading them as a `Kind`
 pub(crate) type Key = (u8, u8, u8);
 
 /// A record as its bytes are, with its index.

@@ -77,7 +77,7 @@ fn put_records<K: Structure>(structure: &mut K, size: Size, out: &mut [u8])
     ensures written { out.new ≡ sets out.old 10 (bytes_of (records_of K.Grade.Scale (K.Structure.tables structure.old) (cells size.states size.marks))) }
     ensures same { structure.new ≡ structure.old }
 {
-    // no chain: after one, nothing is known of what its closure borrows as `&mut`
+    // no chain: after one, nothing is known of a structure that its closure borrows as `&mut`
     let mut at = HEADER;
     for index in 0..size.cells() {
         if let Some(entry) = record_at(structure, size, index) {

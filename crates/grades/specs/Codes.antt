@@ -1,6 +1,7 @@
 -- Scales whose codes are their levels: a code leads to a level only as that of a grade.
-use Rattle.std.specs.Prelude.{◌≡◌, ℕ, zero, suc, ◌≤◌, Bool, true, false, cond, Some, None, nat_le, refl}
-use Rattle.std.proofs.Common.{arith, leb-true}
+use Rattle.std.specs.Prelude.{◌≡◌, ℕ, zero, suc, ◌≤◌, Some, nat_le, refl}
+use Rattle.std.proofs.Common.{sym, arith, leb-true}
+use Rattle.std.proofs.lemmas.Option.{cond_some}
 use Rattle.grades.specs.declared.thousandths.Thousandths.{Thousandths}
 use Rattle.grades.specs.declared.words.Words.{Words}
 use Rattle.grades.specs.declared.words.Words.TheVariants.{Never, Hardly, Seldom, Even, Often, Mostly, Sure}
@@ -11,14 +12,10 @@ use Rattle.grades.specs.Levels.{thousandths_level, word_level, yes_no_level, lev
 -- where each level up to the height has a grade
 pub encoded : {S : Type 0} (level : S → ℕ) (height : ℕ) → ((p : ℕ) → p ≤ height → (x : S) × (level x ≡ p)) →
     (c p : ℕ) → level_of_code height c ≡ Some p → (x : S) × ((level x ≡ p) × (p ≡ c))
-encoded {S = S} level height grade_at c p = by (nat_le c height) (leb-true c height)
-  where
-    by : (b : Bool) → (b ≡ true → c ≤ height) → cond b (Some c) None ≡ Some p → (x : S) × ((level x ≡ p) × (p ≡ c))
-    by true within e =
-        let same : p ≡ c = cc in
-        let grade = grade_at p (omega (arith, within refl)) in
-        (grade.0, (grade.1, same))
-    by false within e = let z : ◌≡◌ {A = ℕ} 0 1 = cc in absurd (omega arith)
+encoded level height grade_at c p e =
+    let is = cond_some (nat_le c height) c p e in
+    let grade = grade_at p (omega (arith, leb-true c height is.0, is.1)) in
+    (grade.0, (grade.1, sym is.1))
 
 pub thousandths_at : (p : ℕ) → p ≤ 1000 → (x : Thousandths) × (thousandths_level x ≡ p)
 thousandths_at p h = (record { 0 = p }, omega arith)

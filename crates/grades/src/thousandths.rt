@@ -1,5 +1,5 @@
 ghost use Rattle.std.specs.Prelude.{◌≡◌, Some, decimal, nat_le};
-ghost use Rattle.grades.specs.Levels.{thousandths_level, thousandths_opposite, level_of_code};
+ghost use Rattle.grades.specs.Levels.{thousandths_level, thousandths_opposite, own_code, level_of_code};
 ghost use Rattle.std.proofs.Common.{rules};
 ghost use Rattle.grades.specs.Codes.{encoded, thousandths_at};
 
@@ -35,7 +35,7 @@ impl Scale for Thousandths {
 
     ghost number = { 1 };
 
-    ghost code = { λ level. level };
+    ghost code = { own_code };
 
     ghost decode = { level_of_code 1000 };
 

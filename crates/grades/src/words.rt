@@ -1,6 +1,6 @@
 ghost use Rattle.grades.specs.declared.words.Words.TheVariants.{Never, Sure};
 ghost use Rattle.std.specs.Prelude.{◌≡◌, Some, nat_le};
-ghost use Rattle.grades.specs.Levels.{word_level, word_opposite, level_of_code};
+ghost use Rattle.grades.specs.Levels.{word_level, word_opposite, own_code, level_of_code};
 ghost use Rattle.grades.specs.Names.{word_name};
 ghost use Rattle.grades.specs.Codes.{encoded, word_at};
 ghost use Rattle.std.proofs.Common.{rules};
@@ -43,7 +43,7 @@ impl Scale for Words {
 
     ghost number = { 2 };
 
-    ghost code = { λ level. level };
+    ghost code = { own_code };
 
     ghost decode = { level_of_code 6 };
 

@@ -1,7 +1,7 @@
 ghost use Rattle.grades.specs.declared.yes_no.YesNo.TheVariants.{No, Yes};
 ghost use Rattle.std.specs.Prelude.{◌≡◌, Some, nat_le};
 ghost use Rattle.grades.specs.Names.{yes_no_name};
-ghost use Rattle.grades.specs.Levels.{yes_no_level, yes_no_opposite, level_of_code};
+ghost use Rattle.grades.specs.Levels.{yes_no_level, yes_no_opposite, own_code, level_of_code};
 ghost use Rattle.grades.specs.Codes.{encoded, answer_at};
 ghost use Rattle.std.proofs.Common.{rules};
 
@@ -33,7 +33,7 @@ impl Scale for YesNo {
 
     ghost number = { 3 };
 
-    ghost code = { λ level. level };
+    ghost code = { own_code };
 
     ghost decode = { level_of_code 1 };
 

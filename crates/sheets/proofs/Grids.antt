@@ -1,15 +1,15 @@
 -- Lemmas on sheets: the cells of the memory, what is read of them, and what one write changes.
-use Rattle.std.proofs.Common.{◌≡◌, ℕ, zero, suc, ◌+◌, ◌*◌, ◌/◌, ◌%◌, ◌<◌, ◌≤◌, Bool, true, false, cond, ◌&&◌, eqb, ltb, ◌≢◌, List, [], ◌∷◌, map, length, get_or, set, sym, refl, ap, ◌∙◌, arith, get_or-set_other, get_or-set_same, below_more, ltb-true, lt-ltb, eqb-true}
+use Rattle.std.proofs.Common.{◌≡◌, ℕ, zero, suc, ◌+◌, ◌*◌, ◌/◌, ◌%◌, ◌<◌, ◌≤◌, Bool, true, false, cond, ◌&&◌, eqb, ltb, ◌≢◌, List, [], ◌∷◌, map, length, get_or, set, sym, refl, ap, ◌∙◌, arith, get_or-set_other, get_or-set_same, below_more, ltb-true, eqb-true}
 use borrow.Author.Tests.{eqb-false}
 use lib.Arith.{digits_lt, digits_div, digits_mod}
 use lib.ListN.{length-map}
 use Rattle.std.proofs.lemmas.Bool.{and_parts}
-use Rattle.std.proofs.lemmas.List.{map-set}
+use Rattle.std.proofs.lemmas.List.{map-set, get_or_past}
 use Rattle.grades.specs.declared.scale.Scale as scale
 use Rattle.sheets.specs.declared.cell.Cell.{Cell}
 use Rattle.sheets.specs.declared.cell.Cell.TheVariants.{Step, Mark}
 use Rattle.sheets.specs.declared.size.Size.{Size}
-use Rattle.sheets.specs.Bounds.{grid, grid_within}
+use Rattle.sheets.specs.Bounds.{inside_in, grid, grid_within}
 use Rattle.sheets.specs.Cells.{is_inside, cell_index, level_at, with_level}
 use Rattle.sheets.specs.Sheets.{inside, sheet_tables, memory_tables, Whole}
 use Rattle.sheets.specs.Tables.{Tables, all_floor, updated}
@@ -17,9 +17,7 @@ use Rattle.sheets.specs.Tables.{Tables, all_floor, updated}
 -- ---- levels of a list
 
 level_past : {S : Type 0} (level : S → ℕ) (xs : List S) (i : ℕ) → length xs ≤ i → get_or (map level xs) i 0 ≡ 0
-level_past level [] i h = refl
-level_past level (x ∷ xs) zero h = absurd (omega arith)
-level_past level (x ∷ xs) (suc i) h = level_past level xs i (omega arith)
+level_past level xs i h = get_or_past (map level xs) i 0 (simp length-map h)
 
 pub floor_more : {S : Type 0} (level : S → ℕ) (s : ℕ) (ws : List S) (x : S) → ((k : ℕ) → k < s → get_or (map level ws) k 0 ≡ 0) → s < length ws → level x ≡ 0 →
     (k : ℕ) → k < s + 1 → get_or (map level (set ws s x)) k 0 ≡ 0
@@ -37,9 +35,6 @@ floor_all level (x ∷ ws) s h w zero = w 0 (omega arith)
 floor_all level (x ∷ ws) s h w (suc k) = floor_all level ws (length ws) (omega arith) (λ i l. w (suc i) (omega arith)) k
 
 -- ---- grids: rows of one width, each with its columns at some places
-
-grid_in : (xs : List ℕ) (rows columns width : ℕ) (column : ℕ → ℕ) (s c : ℕ) → s < rows → c < columns → grid xs rows columns width column s c ≡ get_or xs (s * width + column c) 0
-grid_in xs rows columns width column s c hs hc = rw (lt-ltb s rows hs, lt-ltb c columns hc)
 
 -- two cells that lie at one index of the memory are one
 same_row : (width s c u d : ℕ) → c < width → d < width → s * width + c ≡ u * width + d → s ≡ u
@@ -69,7 +64,7 @@ grid_set xs rows columns width column narrow one s c g hs hc inside u d = first 
         (λ hd q. apart (same_row width u (column d) s (column c) (narrow d hd) (narrow c hc) q) (one d c (same_column width u (column d) s (column c) (narrow d hd) (narrow c hc) q)))
 
     here : u ≡ s → d ≡ c → grid (set xs (s * width + column c) g) rows columns width column u d ≡ g
-    here p q = rw (p, q) (grid_in (set xs (s * width + column c) g) rows columns width column s c hs hc ∙ get_or-set_same xs (s * width + column c) g 0 inside)
+    here p q = rw (p, q) (inside_in s rows c columns _ hs hc ∙ get_or-set_same xs (s * width + column c) g 0 inside)
 
     second : (w : Bool) → eqb d c ≡ w → u ≡ s → grid (set xs (s * width + column c) g) rows columns width column u d ≡ cond w g (grid xs rows columns width column u d)
     second true e p = here p (eqb-true d c e)
@@ -114,9 +109,9 @@ module _ {S : Type 0} (s : scale.Ghosts S) (size : Size) (grades : List S) where
   -- a cell that the memory does not reach is at the floor
   pub past_the_end : (cell : Cell) → is_inside size cell ≡ true → length grades ≤ cell_index size cell → level_at (memory_tables s size grades) cell ≡ 0
   past_the_end (Step from to) has past =
-      let numbers = below from n to n has in grid_in xs n n (n + m) (λ t. t) from to numbers.0 numbers.1 ∙ level_past s.level grades (cell_index size (Step from to)) past
+      let numbers = below from n to n has in inside_in from n to n _ numbers.0 numbers.1 ∙ level_past s.level grades (cell_index size (Step from to)) past
   past_the_end (Mark state which) has past =
-      let numbers = below state n which m has in grid_in xs n m (n + m) (λ k. n + k) state which numbers.0 numbers.1 ∙ level_past s.level grades (cell_index size (Mark state which)) past
+      let numbers = below state n which m has in inside_in state n which m _ numbers.0 numbers.1 ∙ level_past s.level grades (cell_index size (Mark state which)) past
 
   -- one cell set in the memory of a whole sheet, and its tables afterwards
   pub set_cell : (cell : Cell) (at : ℕ) (g : S) → Whole size.states size.marks (length grades) → is_inside size cell ≡ true → at ≡ cell_index size cell →

@@ -1,26 +1,33 @@
 -- What a sheet's memory means, and what a map makes of tables, lies within the bounds: lemmas for the laws of structures.
-use Rattle.std.specs.Prelude.{◌≡◌, ℕ, zero, suc, ◌+◌, ◌*◌, ◌≤◌, true, false, cond, ◌⊎◌, List, [], ◌∷◌, map, nat_lt, slice_index, refl}
-use Rattle.std.proofs.Common.{ap, ◌∙◌, inl, inr, arith, le-ltb}
+use Rattle.std.specs.Prelude.{◌≡◌, ℕ, zero, suc, ◌+◌, ◌*◌, ◌<◌, ◌≤◌, true, false, cond, ◌⊎◌, List, [], ◌∷◌, map, nat_lt, slice_index, refl}
+use Rattle.std.proofs.Common.{ap, ◌∙◌, inl, inr, arith, le-ltb, lt-ltb}
 use Rattle.grades.specs.declared.scale.Scale as scale
 use Rattle.sheets.specs.declared.size.Size.{Size}
 use Rattle.sheets.specs.Sheets.{inside, memory_tables}
 use Rattle.sheets.specs.Tables.{Tables, Bounded, through}
+
+pub inside_in : (s n c w p : ℕ) → s < n → c < w → inside s n c w p ≡ p
+inside_in s n c w p hs hc = rw (lt-ltb s n hs, lt-ltb c w hc)
+
+pub inside_out : (s n c w p : ℕ) → (n ≤ s) ⊎ (w ≤ c) → inside s n c w p ≡ 0
+inside_out s n c w p (inl h) = rw (le-ltb s n h)
+inside_out s n c w p (inr h) = elim (nat_lt s n) as (λ v. cond v (cond (nat_lt c w) p 0) 0 ≡ 0) [ true ↦ rw (le-ltb c w h) | false ↦ refl ]
+
+pub inside_within : (s n c w p h : ℕ) → p ≤ h → inside s n c w p ≤ h
+inside_within s n c w p h l = elim (nat_lt s n) as (λ v. cond v (cond (nat_lt c w) p 0) 0 ≤ h) [
+  | true ↦ elim (nat_lt c w) as (λ v. cond v p 0 ≤ h) [ true ↦ l | false ↦ omega arith ]
+  | false ↦ omega arith
+]
 
 -- rows of one width, each with its columns at some places; outside stands the floor
 abbrev pub grid : List ℕ → (rows columns width : ℕ) → (column : ℕ → ℕ) → (s c : ℕ) → ℕ
 grid xs rows columns width column s c = inside s rows c columns (slice_index xs (s * width + column c))
 
 pub grid_within : (h : ℕ) (xs : List ℕ) → ((i : ℕ) → slice_index xs i ≤ h) → (rows columns width : ℕ) (column : ℕ → ℕ) (s c : ℕ) → grid xs rows columns width column s c ≤ h
-grid_within h xs w rows columns width column s c =
-    elim (nat_lt s rows) as (λ v. cond v (cond (nat_lt c columns) (slice_index xs (s * width + column c)) 0) 0 ≤ h) [
-      | true ↦ elim (nat_lt c columns) as (λ v. cond v (slice_index xs (s * width + column c)) 0 ≤ h) [ true ↦ w (s * width + column c) | false ↦ omega arith ]
-      | false ↦ omega arith
-    ]
+grid_within h xs w rows columns width column s c = inside_within s rows c columns _ h (w (s * width + column c))
 
-pub grid_outside : (xs : List ℕ) (rows columns width : ℕ) (column : ℕ → ℕ) (s c : ℕ) → (rows ≤ s) ⊎ (columns ≤ c) → grid xs rows columns width column s c ≡ 0
-grid_outside xs rows columns width column s c (inl h) = rw (le-ltb s rows h)
-grid_outside xs rows columns width column s c (inr h) =
-    elim (nat_lt s rows) as (λ v. cond v (cond (nat_lt c columns) (slice_index xs (s * width + column c)) 0) 0 ≡ 0) [ true ↦ rw (le-ltb c columns h) | false ↦ refl ]
+grid_outside : (xs : List ℕ) (rows columns width : ℕ) (column : ℕ → ℕ) (s c : ℕ) → (rows ≤ s) ⊎ (columns ≤ c) → grid xs rows columns width column s c ≡ 0
+grid_outside xs rows columns width column s c = inside_out s rows c columns _
 
 levels_within : {S : Type 0} (level : S → ℕ) (h : ℕ) → ((x : S) → level x ≤ h) → (xs : List S) (i : ℕ) → slice_index (map level xs) i ≤ h
 levels_within level h w [] i = omega arith

@@ -84,10 +84,11 @@ impl<'a, S: Scale> Sheet<'a, S> {
         if self.grades.len() != size.cells() {
             return Err(DrawRefusal::Memory);
         }
-        if from >= size.states || to >= size.states {
+        let step = Cell::Step { from, to };
+        if !size.has(step) {
             return Err(DrawRefusal::State);
         }
-        put(self.grades, size, Cell::Step { from, to }, grade);
+        put(self.grades, size, step, grade);
         Ok(())
     }
 
