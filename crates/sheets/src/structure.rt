@@ -5,7 +5,7 @@ use grades::Scale;
 
 /// States, with a grade for each step from one to another and for each mark in each.
 /// A question is answered by the structure's tables, and changes nothing.
-// `&mut self`: a structure may keep what it likes while it answers, so each question says that it changes nothing
+// `&mut self`: a structure may keep what it likes for its answers, so each question says that it changes nothing
 pub trait Structure {
     type Grade: Scale;
 
