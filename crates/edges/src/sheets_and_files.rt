@@ -5,7 +5,7 @@ use std::process::Abort;
 use std::test::Fail;
 
 /// The number that a call is refused with.
-// the numbers are what callers are told by, so the tests compare them and not the enums
+// callers are told the numbers, so the tests compare them and not the enums
 fn number<T: Drop, R: Refusal>(answer: Result<T, R>) -> Option<u8> {
     match answer {
         Ok(_) => None,

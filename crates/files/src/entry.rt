@@ -32,6 +32,7 @@ pub(crate) type Key = (u8, u8, u8);
 #[derive(Clone, Copy)]
 pub(crate) struct Entry {
     pub(crate) index: u16,
+    // not checked yet: it may be no kind
     pub(crate) kind: u8,
     pub(crate) first: u8,
     pub(crate) second: u8,

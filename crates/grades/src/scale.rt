@@ -54,7 +54,7 @@ pub trait Scale: Copy {
         ensures grade { MatchOption result ((x : Self) → code (level x) ≢ wanted) (λ grade. code (level grade) ≡ wanted) }
         ensures decoded { option_map level result ≡ decode wanted };
 
-    // each scale proves every law, those too that follow from others
+    // each scale proves every law, those too that follow from others: a law is mostly one line
     ghost positive: { 1 ≤ height };
 
     ghost limited: { height ≤ 9999 };
