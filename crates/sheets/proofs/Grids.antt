@@ -11,7 +11,7 @@ use Rattle.sheets.specs.declared.cell.Cell.TheVariants.{Step, Mark}
 use Rattle.sheets.specs.declared.size.Size.{Size}
 use Rattle.sheets.specs.Bounds.{inside_in, grid, grid_within}
 use Rattle.sheets.specs.Cells.{is_inside, cell_index, level_at, with_level}
-use Rattle.sheets.specs.Sheets.{inside, sheet_tables, memory_tables, Whole}
+use Rattle.sheets.specs.Sheets.{states_of, marks_of, inside, sheet_tables, memory_tables, Whole}
 use Rattle.sheets.specs.Tables.{Tables, all_floor, updated}
 
 -- ---- levels of a list
@@ -79,6 +79,11 @@ grid_set xs rows columns width column narrow one s c g hs hc inside u d = first 
 tables_are : (n m h : ℕ) {st st' mk mk' : ℕ → ℕ → ℕ} → ((s t : ℕ) → st s t ≡ st' s t) → ((s k : ℕ) → mk s k ≡ mk' s k) →
     ◌≡◌ {A = Tables} (record { states = n; marks = m; height = h; step = st; mark = mk }) (record { states = n; marks = m; height = h; step = st'; mark = mk' })
 tables_are n m h p q = λ i. record { states = n; marks = m; height = h; step = λ s t. p s t i; mark = λ s k. q s k i }
+
+-- what memory means, by the size that a sheet's numbers count as
+pub tables_counted : {S : Type 0} (s : scale.Ghosts S) (size : Size) (n m : ℕ) (grades : List S) → size.states ≡ states_of n → size.marks ≡ marks_of m →
+    sheet_tables (states_of n) (marks_of m) s.height (map s.level grades) ≡ memory_tables s size grades
+tables_counted s size n m grades states marks = λ i. sheet_tables (sym states i) (sym marks i) s.height (map s.level grades)
 
 -- the numbers of a cell that a sheet of this size has
 below : (s n c w : ℕ) → ltb s n && ltb c w ≡ true → (s < n) × (c < w)

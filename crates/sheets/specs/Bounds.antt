@@ -1,9 +1,9 @@
--- What a sheet's memory means, and what a map makes of tables, lies within the bounds: lemmas for the laws of structures.
+-- What a sheet means, and what a map makes of tables, lies within the bounds: lemmas for what a structure's questions promise.
 use Rattle.std.specs.Prelude.{◌≡◌, ℕ, zero, suc, ◌+◌, ◌*◌, ◌<◌, ◌≤◌, true, false, cond, ◌⊎◌, List, [], ◌∷◌, map, nat_lt, slice_index, refl}
 use Rattle.std.proofs.Common.{ap, ◌∙◌, inl, inr, arith, le-ltb, lt-ltb}
 use Rattle.grades.specs.declared.scale.Scale as scale
-use Rattle.sheets.specs.declared.size.Size.{Size}
-use Rattle.sheets.specs.Sheets.{inside, memory_tables}
+use Rattle.sheets.specs.declared.sheet.Sheet.{Sheet}
+use Rattle.sheets.specs.Sheets.{states_of, marks_of, inside, tables_of}
 use Rattle.sheets.specs.Tables.{Tables, Bounded, through}
 
 pub inside_in : (s n c w p : ℕ) → s < n → c < w → inside s n c w p ≡ p
@@ -34,15 +34,15 @@ levels_within level h w [] i = omega arith
 levels_within level h w (x ∷ xs) zero = w x
 levels_within level h w (x ∷ xs) (suc i) = levels_within level h w xs i
 
-pub memory_bounded : {S : Type 0} (s : scale.Ghosts S) → ((x : S) → s.level x ≤ s.height) → (size : Size) (grades : List S) → Bounded s.height (memory_tables s size grades)
-memory_bounded s within size grades =
-    let n = size.states in
-    let m = size.marks in
-    let xs = map s.level grades in
-    let low = levels_within s.level s.height within grades in
+pub sheet_bounded : {S : Type 0} (s : scale.Ghosts S) → ((x : S) → s.level x ≤ s.height) → (sheet : Sheet S) → Bounded s.height (tables_of s sheet)
+sheet_bounded s within sheet =
+    let n = states_of sheet.n in
+    let m = marks_of sheet.m in
+    let xs = map s.level sheet.grades.now in
+    let low = levels_within s.level s.height within sheet.grades.now in
     record {
       tall = refl;
-      limits = size.limits;
+      limits = record { least = omega arith; most = omega arith; few = omega arith };
       steps_within = grid_within s.height xs low n n (n + m) (λ t. t);
       marks_within = grid_within s.height xs low n m (n + m) (λ k. n + k);
       steps_outside = grid_outside xs n n (n + m) (λ t. t);

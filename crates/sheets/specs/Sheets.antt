@@ -1,9 +1,16 @@
 -- What a sheet's memory means: for each state a stretch of cells, its steps and then its marks.
-use Rattle.std.specs.Prelude.{◌≡◌, ℕ, ◌+◌, ◌*◌, cond, List, map, length, nat_lt, slice_index}
+use Rattle.std.specs.Prelude.{◌≡◌, ℕ, ◌+◌, ◌*◌, min, max, cond, List, map, length, nat_lt, slice_index}
 use Rattle.grades.specs.declared.scale.Scale as scale
 use Rattle.sheets.specs.declared.sheet.Sheet.{Sheet}
 use Rattle.sheets.specs.declared.size.Size.{Size}
 use Rattle.sheets.specs.Tables.{Tables, Limits}
+
+-- a size outside the limits counts as the nearest limit
+abbrev pub states_of : ℕ → ℕ
+states_of n = max 1 (min n 64)
+
+abbrev pub marks_of : ℕ → ℕ
+marks_of m = min m 16
 
 -- where in the memory of n states and m marks a step lies, and a mark
 abbrev pub step_cell : (n m from to : ℕ) → ℕ
@@ -30,22 +37,19 @@ sheet_tables n m height cells = record {
 abbrev pub memory_tables : {S : Type 0} → scale.Ghosts S → Size → List S → Tables
 memory_tables s size grades = sheet_tables size.states size.marks s.height (map s.level grades)
 
-abbrev pub size_of : {S : Type 0} {s : scale.Ghosts S} → Sheet S s → Size
-size_of sheet = record { states = sheet.n; marks = sheet.m; limits = sheet.limits }
-
-abbrev pub tables_of : {S : Type 0} (s : scale.Ghosts S) → Sheet S s → Tables
-tables_of s sheet = memory_tables s (size_of sheet) sheet.grades.now
+abbrev pub tables_of : {S : Type 0} → scale.Ghosts S → Sheet S → Tables
+tables_of s sheet = sheet_tables (states_of sheet.n) (marks_of sheet.m) s.height (map s.level sheet.grades.now)
 
 -- sizes within the limits, and a cell for each step and each mark
 pub record Whole (n m cells : ℕ) : Type 0 where
   pub limits : Limits n m
   pub room : cells ≡ n * (n + m)
 
-abbrev pub IsWhole : {S : Type 0} {s : scale.Ghosts S} → Sheet S s → Type 0
+abbrev pub IsWhole : {S : Type 0} → Sheet S → Type 0
 IsWhole sheet = Whole sheet.n sheet.m (length sheet.grades.now)
 
 -- what every call on a sheet keeps: its size, and that it is over the same memory
-pub record Kept {S : Type 0} {s : scale.Ghosts S} (before after : Sheet S s) : Type 0 where
+pub record Kept {S : Type 0} (before after : Sheet S) : Type 0 where
   pub n : after.n ≡ before.n
   pub m : after.m ≡ before.m
   pub length_same : length after.grades.now ≡ length before.grades.now

@@ -1,10 +1,9 @@
 ghost use Rattle.std.specs.Prelude.{◌≡◌, ℕ, ◌+◌, ◌*◌, true, map as mapped, length, MatchResult, slice_index};
 ghost use Rattle.std.specs.Result.{result_err};
 ghost use Rattle.sheets.specs.Refusals.{draw_refusal, mark_refusal};
-ghost use Rattle.sheets.specs.Sheets.{size_of, memory_tables, tables_of, Whole, IsWhole, Kept};
-ghost use Rattle.sheets.specs.Bounds.{memory_bounded};
+ghost use Rattle.sheets.specs.Sheets.{states_of, marks_of, memory_tables, tables_of, Whole, IsWhole, Kept};
 ghost use Rattle.sheets.specs.Cells.{is_inside, level_at, with_level};
-ghost use Rattle.sheets.specs.Tables.{all_floor, with_step, with_mark};
+ghost use Rattle.sheets.specs.Tables.{Bounded, all_floor, with_step, with_mark};
 
 use crate::cell::Cell;
 use crate::{DrawRefusal, MarkRefusal, Sheet, Size, Structure};
@@ -31,18 +30,22 @@ fn clear<S: Scale>(grades: &mut [S])
 }
 
 impl<'a, S: Scale> Sheet<'a, S> {
+    /// The size; outside the limits, the nearest limit.
     fn size(&self) -> Size
-        ensures { result ≡ size_of self.now }
+        ensures states { result.states ≡ states_of self.now.n }
+        ensures marks { result.marks ≡ marks_of self.now.m }
+        ensures bounded { Bounded S.Scale.height (tables_of S.Scale self.now) }
     {
         Size {
-            states: self.n,
-            marks: self.m,
+            states: self.n.min(64).max(1),
+            marks: self.m.min(16),
         }
     }
 
     /// The grade of a cell.
     fn read(&self, cell: Cell) -> S
-        ensures { S.Scale.level result ≡ level_at (tables_of S.Scale self.now) cell }
+        ensures value { S.Scale.level result ≡ level_at (tables_of S.Scale self.now) cell }
+        ensures bounded { Bounded S.Scale.height (tables_of S.Scale self.now) }
     {
         let size = self.size();
         if !size.has(cell) {
@@ -80,10 +83,9 @@ impl<'a, S: Scale> Sheet<'a, S> {
             (λ _. tables_of S.Scale self.new ≡ with_step (tables_of S.Scale self.old) from to (S.Scale.level grade))
             (λ _. self.new ≡ self.old) }
     {
-        let size = self.size();
-        if self.grades.len() != size.cells() {
+        let Ok(size) = Size::new(self.n, self.m, self.grades.len()) else {
             return Err(DrawRefusal::Memory);
-        }
+        };
         let step = Cell::Step { from, to };
         if !size.has(step) {
             return Err(DrawRefusal::State);
@@ -100,10 +102,9 @@ impl<'a, S: Scale> Sheet<'a, S> {
             (λ _. tables_of S.Scale self.new ≡ with_mark (tables_of S.Scale self.old) state which (S.Scale.level grade))
             (λ _. self.new ≡ self.old) }
     {
-        let size = self.size();
-        if self.grades.len() != size.cells() {
+        let Ok(size) = Size::new(self.n, self.m, self.grades.len()) else {
             return Err(MarkRefusal::Memory);
-        }
+        };
         if state >= size.states {
             return Err(MarkRefusal::State);
         }
@@ -120,14 +121,12 @@ impl<'a, S: Scale> Structure for Sheet<'a, S> {
 
     ghost tables = { tables_of S.Scale };
 
-    ghost bounded = { λ sheet. memory_bounded S.Scale.own S.Scale.within (size_of sheet) sheet.grades.now };
-
     fn states(&mut self) -> usize {
-        self.n
+        self.size().states
     }
 
     fn marks(&mut self) -> usize {
-        self.m
+        self.size().marks
     }
 
     fn step_grade(&mut self, from: usize, to: usize) -> S {

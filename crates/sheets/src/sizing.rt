@@ -2,6 +2,7 @@ ghost use Rattle.std.specs.Prelude.{◌≡◌, ◌+◌, ◌*◌, MatchResult};
 ghost use Rattle.std.specs.Result.{result_err};
 ghost use Rattle.sheets.specs.Refusals.{size_refusal};
 ghost use Rattle.sheets.specs.Sheets.{Whole};
+ghost use Rattle.sheets.specs.Tables.{Bounded};
 
 use crate::{Size, SizeRefusal, Structure};
 
@@ -31,6 +32,7 @@ impl Size {
         ensures states { result.states ≡ (K.Structure.tables structure.old).states }
         ensures marks { result.marks ≡ (K.Structure.tables structure.old).marks }
         ensures same { structure.new ≡ structure.old }
+        ensures bounded { Bounded K.Grade.Scale.height (K.Structure.tables structure.old) }
     {
         let states = structure.states();
         let marks = structure.marks();

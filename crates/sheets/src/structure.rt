@@ -13,20 +13,21 @@ pub trait Structure {
 
     fn states(&mut self) -> usize
         ensures value { result ≡ (tables self.old).states }
-        ensures same { self.new ≡ self.old };
+        ensures same { self.new ≡ self.old }
+        ensures bounded { Bounded Self.Grade.Scale.height (tables self.old) };
 
     fn marks(&mut self) -> usize
         ensures value { result ≡ (tables self.old).marks }
-        ensures same { self.new ≡ self.old };
+        ensures same { self.new ≡ self.old }
+        ensures bounded { Bounded Self.Grade.Scale.height (tables self.old) };
 
     fn step_grade(&mut self, from: usize, to: usize) -> Self::Grade
         ensures value { Self.Grade.Scale.level result ≡ (tables self.old).step from to }
-        ensures same { self.new ≡ self.old };
+        ensures same { self.new ≡ self.old }
+        ensures bounded { Bounded Self.Grade.Scale.height (tables self.old) };
 
     fn mark_grade(&mut self, state: usize, which: usize) -> Self::Grade
         ensures value { Self.Grade.Scale.level result ≡ (tables self.old).mark state which }
-        ensures same { self.new ≡ self.old };
-
-    // the sizes lie within the limits, the levels within the height, and outside the numbers stands the floor
-    ghost bounded: { (k : Self) → Bounded Self.Grade.Scale.height (tables k) };
+        ensures same { self.new ≡ self.old }
+        ensures bounded { Bounded Self.Grade.Scale.height (tables self.old) };
 }

@@ -1,5 +1,4 @@
 ghost use Rattle.std.specs.Prelude.{◌≡◌};
-ghost use Rattle.sheets.specs.Bounds.{through_bounded};
 ghost use Rattle.sheets.specs.Tables.{through};
 
 use crate::Structure;
@@ -25,8 +24,6 @@ impl<M: GradeMap, K: Structure<Grade = M::From>> Structure for Translated<K, M> 
     type Grade = M::To;
 
     ghost tables = { λ k. through (M.GradeMap.table k.map) M.To.Scale.height (K.Structure.tables k.below) };
-
-    ghost bounded = { λ k. through_bounded (M.GradeMap.table k.map) _ _ (M.GradeMap.ordered k.map) (M.GradeMap.floors k.map) (M.GradeMap.tops k.map) _ (K.Structure.bounded k.below) };
 
     fn states(&mut self) -> usize {
         self.below.states()
