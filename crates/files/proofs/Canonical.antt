@@ -11,7 +11,6 @@ use Rattle.files.specs.declared.cell.Kind.TheVariants.{Step, Mark}
 use Rattle.files.specs.declared.cell.Cell.{Cell}
 use Rattle.files.specs.declared.cell.Record.{Record}
 use Rattle.files.specs.declared.entry.Entry.{Entry}
-use Rattle.files.specs.Bounds.{Headed, file_bounded}
 use Rattle.files.specs.Checks.{file_fault}
 use Rattle.files.specs.Entries.{states, marks, count, entries_from, entries, key}
 use Rattle.files.specs.Format.{Key, key_order, cell, cell_key, kind_byte, level_at, record_of, bytes_of, table_records, file_of, Before, Ascend, Records}
@@ -19,8 +18,8 @@ use Rattle.files.specs.Recorded.{level_found, code_of, file_tables}
 use Rattle.files.proofs.Ascending.{Ascend_same, Contains-map_back}
 use Rattle.files.proofs.Laws.{records_are, Contains-map}
 use Rattle.files.proofs.Lookups.{all_after, code_found, code_had}
-use Rattle.files.proofs.Sound.{Proper, Sound, limit, faultless}
-use Rattle.files.proofs.Tabled.{Codes, found_above, level_recorded, recorded_above}
+use Rattle.files.proofs.Sound.{Proper, Sound, Headed, limit, faultless}
+use Rattle.files.proofs.Tabled.{Codes, found_above, level_looked, looked_above, file_bounded}
 use Rattle.sheets.specs.Bounds.{inside_in}
 
 -- ---- records by their kinds
@@ -105,7 +104,7 @@ module _ {S : Type 0} (s : scale.Ghosts S) (codes : Codes s) (bytes : List ℕ) 
   sound = (faultless s bytes passed).1
 
   pub file_records : Records s (file_tables s bytes) (table_records s (file_tables s bytes))
-  file_records = records_are s.height (file_tables s bytes) (file_bounded s codes.within bytes passed) s
+  file_records = records_are s.height (file_tables s bytes) (file_bounded s codes bytes passed) s
 
   proper : All (Proper s (states bytes) (marks bytes)) (entries bytes)
   proper = all_proper s (states bytes) (marks bytes) None (entries bytes) sound
@@ -113,7 +112,7 @@ module _ {S : Type 0} (s : scale.Ghosts S) (codes : Codes s) (bytes : List ℕ) 
   -- a record's cell is at its grade's level
   record_level : (e : Entry) → Contains (entries bytes) e → (p : Proper s (states bytes) (marks bytes) e) → level_at (file_tables s bytes) (cell_of e) ≡ p.level
   record_level e has p =
-      level_recorded s bytes (kind_of e.kind) e.first e.second
+      level_looked s (states bytes) (marks bytes) (code_of (entries bytes)) (kind_of e.kind) e.first e.second
       ∙ inside_in e.first (states bytes) e.second (limit (states bytes) (marks bytes) (kind_of e.kind)) _ p.first
       (omega (arith, p.second, ap (limit (states bytes) (marks bytes)) (kind_typed s (states bytes) (marks bytes) e p)))
       ∙ ap (λ (k : Key). level_found s (code_of (entries bytes) k)) (key_typed s (states bytes) (marks bytes) e p)
@@ -135,7 +134,7 @@ module _ {S : Type 0} (s : scale.Ghosts S) (codes : Codes s) (bytes : List ℕ) 
   back r has =
       let c = r.cell in
       let above = All-contains (λ (x : Record). (0 < level_at (file_tables s bytes) x.cell) × (x.code ≡ s.code (level_at (file_tables s bytes) x.cell))) _ r file_records.above has in
-      let looked = recorded_above s bytes c above.0 in
+      let looked = looked_above s (states bytes) (marks bytes) (code_of (entries bytes)) c above.0 in
       let found = found_above s (code_of (entries bytes) (cell_key c)) (omega (arith, above.0, looked.2)) in
       let entry = code_found (entries bytes) (cell_key c) found.0 found.1 in
       let e = entry.0 in

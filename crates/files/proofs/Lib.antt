@@ -1,6 +1,7 @@
 pub mod Ascending
 pub mod Canonical
 pub mod Cells
+pub mod Halving
 pub mod Keys
 pub mod Laws
 pub mod Lookups

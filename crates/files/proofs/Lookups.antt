@@ -1,22 +1,26 @@
--- In records that pass their checks, a binary search finds what is recorded.
-use Rattle.std.proofs.Common.{◌≡◌, ℕ, zero, suc, ◌+◌, ◌<◌, ◌≤◌, false, cond, ◌⊎◌, List, [], ◌∷◌, length, get_or, Some, None, Option, Ok, Err, Result, MatchResult, sym, refl, ap, ◌∙◌, inl, inr, arith}
+-- In records that pass their checks, halving finds what is recorded.
+use Rattle.std.proofs.Common.{◌≡◌, ℕ, zero, suc, ◌+◌, ◌/◌, ◌<◌, ◌≤◌, true, false, cond, ◌⊎◌, List, [], ◌∷◌, length, get_or, drop, Some, None, Option, sym, refl, ap, ◌∙◌, inl, inr, arith}
+use mathlib.Core.Bool.{false≢true}
 use Rattle.std.specs.List.{Contains, All}
-use Rattle.std.specs.List.Sorted.{IsSortedBy, IsSearchInRange, IsBinarySearchResult, IsPartitionPoint}
-use Rattle.std.specs.Option.{option_map}
-use Rattle.std.specs.Ordering.{is_lt, is_eq, ordering_reverse}
+use Rattle.std.specs.List.Sorted.{IsSortedBy}
+use Rattle.std.specs.Simd.{first_chunks}
+use Rattle.std.specs.Ordering.{is_lt, is_eq, ordering_index, ordering_reverse}
 use Rattle.std.specs.declared.cmp.Ordering.{Ordering}
 use Rattle.std.specs.declared.cmp.Ordering.TheVariants.{Less, Equal, Greater}
 use Rattle.std.proofs.lemmas.Bool.{cases_lt}
 use Rattle.std.proofs.lemmas.Cmp.{tied_itself}
+use Rattle.std.proofs.lemmas.List.{get_or_default, length-drop}
 use Rattle.std.proofs.lemmas.List.Elements.{All-nil, All-cons, All-contains, All-weaker}
-use Rattle.std.proofs.lemmas.Option.{none-some, slice_get-get_or}
+use Rattle.std.proofs.lemmas.Option.{none-some, slice_get-get_or, slice_get_past}
 use Rattle.std.proofs.lemmas.List.Sorted.{searchable_from_sorted}
 use Rattle.grades.specs.declared.scale.Scale as scale
 use Rattle.files.specs.declared.entry.Entry.{Entry}
 use Rattle.files.specs.Checks.{file_fault}
-use Rattle.files.specs.Entries.{two_bytes, states, marks, raw_records, entry_of, entries_from, entries, code_at, key}
+use Rattle.files.specs.Entries.{two_bytes, states, marks, count, raw_records, entry_of, entries_from, entries, key}
 use Rattle.files.specs.Format.{Key, key_order}
 use Rattle.files.specs.Recorded.{code_of}
+use Rattle.files.specs.Search.{whole_records, raw_key, is_before, partition_point, found}
+use Rattle.files.proofs.Halving.{Rest, comes_to_rest}
 use Rattle.files.proofs.Keys.{key_total, less_from_test, same_from_tied}
 use Rattle.files.proofs.Sound.{Sound, faultless}
 
@@ -66,9 +70,6 @@ module _ {S : Type 0} (s : scale.Ghosts S) (n m : ℕ) where
 
 -- ---- a binary search
 
-abbrev pub raw_key : List ℕ → Key
-raw_key raw = key (entry_of 0 raw)
-
 -- a raw record is among the records by its index
 has_raw : (i : ℕ) (raws : List (List ℕ)) (k : ℕ) (d : List ℕ) (j : ℕ) → k < length raws → i + k ≡ j → Contains (entries_from i raws) (entry_of j (get_or raws k d))
 has_raw i [] k d j h e = absurd (omega arith)
@@ -89,25 +90,69 @@ module _ {S : Type 0} (s : scale.Ghosts S) (n m : ℕ) where
       let more : suc k + 1 ≡ suc (k + 1) = omega arith in
       rw more (rising (Some (entry_of i raw)) (i + 1) (next ∷ raws) x.2 k d (omega arith) (omega arith))
 
--- what a binary search by the key finds, in a file without a fault
-module _ {S : Type 0} (s : scale.Ghosts S) (bytes : List ℕ) (passed : file_fault s bytes ≡ None) (wanted : Key) where
-  sound : Sound s (states bytes) (marks bytes) None (entries bytes)
-  sound = (faultless s bytes passed).1
+-- ---- what halving finds
 
-  found_at : (k : ℕ) → k < length (raw_records bytes) → key_order (raw_key (get_or (raw_records bytes) k [])) wanted ≡ Equal → code_of (entries bytes) wanted ≡ code_at bytes k
-  found_at k h tied =
-      ap (code_of (entries bytes)) (sym (same_from_tied _ _ tied))
-      ∙ code_had s (states bytes) (marks bytes) None (entries bytes) (entry_of k (get_or (raw_records bytes) k [])) sound (has_raw 0 (raw_records bytes) k [] k h (omega arith))
-      ∙ ap (option_map (λ raw. two_bytes raw 3)) (sym (slice_get-get_or (raw_records bytes) k [] h))
+before_from_index : (o : Ordering) → ordering_index o ≤ 0 → is_lt o ≡ true
+before_from_index Less h = refl
+before_from_index Equal h = absurd (omega (arith, h))
+before_from_index Greater h = absurd (omega (arith, h))
 
-  found_nowhere : (k : ℕ) → IsPartitionPoint (λ raw. key_order (raw_key raw) wanted ≡ Less) (λ raw. key_order (raw_key raw) wanted ≡ Greater) (raw_records bytes) k → code_of (entries bytes) wanted ≡ None
-  found_nowhere k sides = none_has wanted 0 (raw_records bytes) (λ j d h. by j d h (cases_lt j k))
+apart_before : (o : Ordering) → is_lt o ≡ true → is_eq o ≡ false
+apart_before o e = ap is_eq (less_from_test o e)
+
+apart_after : (o : Ordering) → 2 ≤ ordering_index o → is_eq o ≡ false
+apart_after Less h = refl
+apart_after Equal h = absurd (omega (arith, h))
+apart_after Greater h = refl
+
+module _ {S : Type 0} (s : scale.Ghosts S) (n m : ℕ) (raws : List (List ℕ)) (sound : Sound s n m None (entries_from 0 raws)) (wanted : Key) where
+  order : (index : ℕ) → Ordering
+  order index = key_order (raw_key (get_or raws index [])) wanted
+
+  nearing : (i j : ℕ) → i ≤ j → j < length raws → ordering_index (order i) ≤ ordering_index (order j)
+  nearing i j le l = searchable_from_sorted key_total raw_key raws wanted (rising s n m None 0 raws sound) i j [] le l
+
+  down : (i j : ℕ) → i ≤ j → j < length raws → is_before raws wanted j ≡ true → is_before raws wanted i ≡ true
+  down i j le l t = before_from_index (order i) (omega (arith, nearing i j le l, ap ordering_index (less_from_test (order j) t)))
+
+  rest : Rest (is_before raws wanted) 0 (length raws) (partition_point raws wanted)
+  rest = comes_to_rest (is_before raws wanted) (length raws) down (length raws) 0 (length raws) (omega arith) (omega arith) (omega arith)
+
+  -- no record before the point of rest has the key, and none from there on either, where the one there comes after it
+  before_point : (j : ℕ) → j < partition_point raws wanted → is_eq (order j) ≡ false
+  before_point j l = apart_before (order j) (rest.holds j (omega arith) l)
+
+  nowhere : ((j : ℕ) → partition_point raws wanted ≤ j → j < length raws → is_eq (order j) ≡ false) → code_of (entries_from 0 raws) wanted ≡ None
+  nowhere after = none_has wanted 0 raws (λ j d h. rw (get_or_default raws j d [] h) (by j h (cases_lt j (partition_point raws wanted))))
     where
-      by : (j : ℕ) (d : List ℕ) → j < length (raw_records bytes) → (j < k) ⊎ (k ≤ j) → is_eq (key_order (raw_key (get_or (raw_records bytes) j d)) wanted) ≡ false
-      by j d h (inl l) = rw (sides.0 j d (omega arith) l)
-      by j d h (inr l) = rw (sides.1 j d l h)
+      by : (j : ℕ) → j < length raws → (j < partition_point raws wanted) ⊎ (partition_point raws wanted ≤ j) → is_eq (order j) ≡ false
+      by j h (inl l) = before_point j l
+      by j h (inr l) = after j l h
 
-  pub searched : (r : Result ℕ ℕ) → IsSearchInRange r (length (raw_records bytes)) → IsBinarySearchResult (λ raw. key_order (raw_key raw) wanted) (raw_records bytes) r →
-      MatchResult r (λ index. code_of (entries bytes) wanted ≡ code_at bytes index) (λ _. code_of (entries bytes) wanted ≡ None)
-  searched (Ok k) h tied = found_at k h (tied [])
-  searched (Err k) h parted = found_nowhere k (parted (searchable_from_sorted key_total raw_key (raw_records bytes) wanted (rising s (states bytes) (marks bytes) None 0 (raw_records bytes) sound)))
+  code_there : (k : ℕ) → k < length raws → order k ≡ Equal → code_of (entries_from 0 raws) wanted ≡ Some (two_bytes (get_or raws k []) 3)
+  code_there k h tied =
+      ap (code_of (entries_from 0 raws)) (sym (same_from_tied _ _ tied))
+      ∙ code_had s n m None (entries_from 0 raws) (entry_of k (get_or raws k [])) sound (has_raw 0 raws k [] k h (omega arith))
+
+  pub finds : found raws wanted ≡ code_of (entries_from 0 raws) wanted
+  finds = by (cases_lt (partition_point raws wanted) (length raws))
+    where
+      here : (o : Ordering) → order (partition_point raws wanted) ≡ o → partition_point raws wanted < length raws → cond (is_eq o) (Some (two_bytes (get_or raws (partition_point raws wanted) []) 3)) None ≡ code_of (entries_from 0 raws) wanted
+      here Less e l = absurd (false≢true (sym (rest.fails (partition_point raws wanted) (omega arith) l) ∙ ap is_lt e))
+      here Equal e l = sym (code_there (partition_point raws wanted) l e)
+      here Greater e l = sym (nowhere (λ j le h. apart_after (order j) (omega (arith, nearing (partition_point raws wanted) j le h, ap ordering_index e))))
+
+      by : (partition_point raws wanted < length raws) ⊎ (length raws ≤ partition_point raws wanted) → found raws wanted ≡ code_of (entries_from 0 raws) wanted
+      by (inl l) = rw (slice_get-get_or raws (partition_point raws wanted) [] l) (here (order (partition_point raws wanted)) refl l)
+      by (inr l) = rw (slice_get_past raws (partition_point raws wanted) l) (sym (nowhere (λ j le h. absurd (omega arith))))
+
+-- in a file without a fault the whole records are those that its header counts
+module _ {S : Type 0} (s : scale.Ghosts S) (bytes : List ℕ) (passed : file_fault s bytes ≡ None) where
+  whole_are : whole_records bytes ≡ raw_records bytes
+  whole_are =
+      let many : length (drop 10 bytes) / 5 ≡ count bytes = omega (arith, length-drop 10 bytes, (faultless s bytes passed).0.whole) in
+      ap (λ (k : ℕ). first_chunks 5 k (drop 10 bytes)) many
+
+  pub finds_recorded : (wanted : Key) → found (whole_records bytes) wanted ≡ code_of (entries bytes) wanted
+  finds_recorded wanted =
+      ap (λ raws. found raws wanted) whole_are ∙ finds s (states bytes) (marks bytes) (raw_records bytes) (faultless s bytes passed).1 wanted

@@ -13,7 +13,6 @@ use Rattle.files.specs.declared.cell.Kind.TheVariants.{Step, Mark}
 use Rattle.files.specs.declared.cell.Cell.{Cell}
 use Rattle.files.specs.declared.cell.Record.{Record}
 use Rattle.files.specs.declared.entry.Entry.{Entry}
-use Rattle.files.specs.Bounds.{Headed}
 use Rattle.files.specs.Checks.{follows, file_fault}
 use Rattle.files.specs.Entries.{states, marks, count, entries_from, entries}
 use Rattle.files.specs.Format.{cell, cells, kind_byte, level_at, above_floor, record_of, bytes_of, table_records, file_of, Ascend, Records, Graded}
@@ -22,7 +21,7 @@ use Rattle.files.proofs.Canonical.{typed, kind_back, file_records, records_recor
 use Rattle.files.proofs.Cells.{cells_by_index}
 use Rattle.files.proofs.Laws.{in_numbers, records_are}
 use Rattle.files.proofs.Records.{length-file_of}
-use Rattle.files.proofs.Sound.{Proper, Sound, without_fault}
+use Rattle.files.proofs.Sound.{Proper, Sound, Headed, without_fault}
 use Rattle.files.proofs.Tabled.{Codes, file_graded}
 use Rattle.sheets.specs.Tables.{Tables, Bounded}
 
@@ -143,7 +142,7 @@ module _ {S : Type 0} (s : scale.Ghosts S) (T : Tables) (bounded : Bounded s.hei
         same : (0 < level_at R c) ⊎ (level_at R c ≤ 0) → (0 < level_at T c) ⊎ (level_at T c ≤ 0) → level_at R c ≡ level_at T c
         same (inl r) t =
             let both = one_code R T laws_R laws_T same_file_records r in
-            let p = file_graded s (file_of s T) codes c r in
+            let p = file_graded s codes (file_of s T) c r in
             let q = graded c both.0 in
             let e : ◌≡◌ {A = Option ℕ} (Some (level_at R c)) (Some (level_at T c)) = sym p ∙ ap s.decode both.1 ∙ q in
             cc

@@ -1,22 +1,35 @@
 -- A file has no fault exactly if its header and each of its records are as they should be.
-use Rattle.std.proofs.Common.{◌≡◌, ℕ, ◌<◌, Bool, true, ◌||◌, eqb, ltb, ◌⊎◌, List, [], ◌∷◌, is_some, Some, None, Option, unwrap_or, refl, ap, inl, inr, ltb-true, lt-ltb, eq-eqb, eqb-true, le-leb}
+use Rattle.std.proofs.Common.{◌≡◌, ℕ, ◌<◌, ◌≤◌, Bool, true, false, ◌||◌, eqb, ltb, ◌⊎◌, List, [], ◌∷◌, length, get_or, is_some, Some, None, Option, unwrap_or, sym, refl, ap, inl, inr, ltb-true, lt-ltb, eq-eqb, eqb-true, le-leb, leb-true}
 use mathlib.Core.Bool.{false≢true}
 use Rattle.std.proofs.lemmas.Bool.{or_cases}
-use Rattle.std.specs.Option.{option_map}
+use Rattle.std.proofs.lemmas.Option.{none-some}
+use Rattle.std.specs.Option.{option_map, option_or}
 use Rattle.grades.specs.Refusals.{needing}
 use Rattle.grades.specs.declared.scale.Scale as scale
 use Rattle.files.specs.declared.cell.Kind.{Kind}
 use Rattle.files.specs.declared.cell.Kind.TheVariants.{Step, Mark}
 use Rattle.files.specs.declared.entry.Entry.{Entry}
-use Rattle.files.specs.Entries.{states, marks, entries}
-use Rattle.files.specs.Bounds.{needed, neither, unmapped, Headed, is_headed}
+use Rattle.files.specs.Entries.{two_bytes, states, marks, count, entries}
 use Rattle.files.specs.Checks.{header_fault, grade_fault, second_limit, follows, record_fault, records_fault, file_fault}
-use Rattle.files.specs.Format.{kind_byte}
+use Rattle.files.specs.Format.{kind_byte, file_length}
+use Rattle.sheets.specs.Tables.{Limits}
 
 -- ---- ladders without a refusal
 
+needed : {R : Type 0} (test : Bool) (refusal : R) (next : Option R) → needing test refusal next ≡ None → (test ≡ true) × (next ≡ None)
+needed true refusal next e = (refl, e)
+needed false refusal next e = absurd (none-some refusal (sym e))
+
 pub meets : {R : Type 0} (test : Bool) (refusal : R) (next : Option R) → test ≡ true → next ≡ None → needing test refusal next ≡ None
 meets test refusal next t e = rw t e
+
+neither : {R : Type 0} (a b : Option R) → option_or a b ≡ None → (a ≡ None) × (b ≡ None)
+neither None b e = (refl, e)
+neither (Some x) b e = absurd (none-some x (sym e))
+
+unmapped : {A B : Type 0} (f : A → B) (o : Option A) → option_map f o ≡ None → o ≡ None
+unmapped f None e = refl
+unmapped f (Some x) e = absurd (none-some (f x) (sym e))
 
 -- ---- records
 
@@ -105,6 +118,42 @@ module _ {S : Type 0} (s : scale.Ghosts S) (n m : ℕ) where
 
 -- ---- the header
 
+pub record Headed {S : Type 0} (s : scale.Ghosts S) (bytes : List ℕ) : Type 0 where
+  pub long : 10 ≤ length bytes
+  pub letter_w : get_or bytes 0 0 ≡ 87
+  pub letter_s : get_or bytes 1 0 ≡ 83
+  pub letter_h : get_or bytes 2 0 ≡ 72
+  pub version : two_bytes bytes 3 ≡ 1
+  pub scale : get_or bytes 5 0 ≡ s.number
+  pub limits : Limits (states bytes) (marks bytes)
+  pub few : count bytes ≤ 5120
+  pub whole : length bytes ≡ file_length (count bytes)
+
+is_headed : {S : Type 0} (s : scale.Ghosts S) (bytes : List ℕ) → header_fault s bytes ≡ None → Headed s bytes
+is_headed s bytes none =
+    let a = needed _ _ _ none in
+    let b = needed _ _ _ a.1 in
+    let c = needed _ _ _ b.1 in
+    let d = needed _ _ _ c.1 in
+    let e = needed _ _ _ d.1 in
+    let f = needed _ _ _ e.1 in
+    let g = needed _ _ _ f.1 in
+    let h = needed _ _ _ g.1 in
+    let i = needed _ _ _ h.1 in
+    let j = needed _ _ _ i.1 in
+    let k = needed _ _ _ j.1 in
+    record {
+      long = leb-true _ _ a.0;
+      letter_w = eqb-true _ _ b.0;
+      letter_s = eqb-true _ _ c.0;
+      letter_h = eqb-true _ _ d.0;
+      version = eqb-true _ _ e.0;
+      scale = eqb-true _ _ f.0;
+      limits = record { least = leb-true _ _ g.0; most = leb-true _ _ h.0; few = leb-true _ _ i.0 };
+      few = leb-true _ _ j.0;
+      whole = eqb-true _ _ k.0;
+    }
+
 headed_passes : {S : Type 0} (s : scale.Ghosts S) (bytes : List ℕ) → Headed s bytes → header_fault s bytes ≡ None
 headed_passes s bytes x =
     meets _ _ _ (le-leb _ _ x.long)
@@ -125,7 +174,7 @@ module _ {S : Type 0} (s : scale.Ghosts S) (bytes : List ℕ) where
   pub faultless : file_fault s bytes ≡ None → Headed s bytes × Sound s (states bytes) (marks bytes) None (entries bytes)
   faultless none =
       let both = neither (option_map _ (header_fault s bytes)) (option_map _ (records_fault s (states bytes) (marks bytes) None (entries bytes))) none in
-      (is_headed s bytes none, is_sound s (states bytes) (marks bytes) None (entries bytes) (unmapped _ _ both.1))
+      (is_headed s bytes (unmapped _ _ both.0), is_sound s (states bytes) (marks bytes) None (entries bytes) (unmapped _ _ both.1))
 
   pub without_fault : Headed s bytes → Sound s (states bytes) (marks bytes) None (entries bytes) → file_fault s bytes ≡ None
   without_fault headed sound = rw (headed_passes s bytes headed, sound_passes s (states bytes) (marks bytes) None (entries bytes) sound)

@@ -1,15 +1,17 @@
--- The tables that a file records: within the limits, and by the levels of grades.
+-- Tables that are looked up: within the limits, and by the levels of grades.
 use Rattle.std.proofs.Common.{◌≡◌, ℕ, ◌<◌, ◌≤◌, Bool, true, false, cond, ltb, List, Some, None, Option, unwrap_or, sym, refl, ap, ◌∙◌, arith, ltb-true}
 use Rattle.grades.specs.declared.scale.Scale as scale
 use Rattle.files.specs.declared.cell.Kind.{Kind}
 use Rattle.files.specs.declared.cell.Kind.TheVariants.{Step, Mark}
 use Rattle.files.specs.declared.cell.Cell.{Cell}
+use Rattle.files.specs.Checks.{file_fault}
 use Rattle.files.specs.Entries.{states, marks, entries}
-use Rattle.files.specs.Format.{cell_key, kind_byte, level_by, level_at, Graded}
-use Rattle.files.specs.Recorded.{code_of, level_found, file_tables}
-use Rattle.files.proofs.Sound.{limit}
-use Rattle.sheets.specs.Bounds.{inside_in}
+use Rattle.files.specs.Format.{Key, cell_key, kind_byte, level_by, level_at, Graded}
+use Rattle.files.specs.Recorded.{code_of, level_found, looked_up, file_tables}
+use Rattle.files.proofs.Sound.{limit, faultless}
+use Rattle.sheets.specs.Bounds.{inside_in, inside_out, inside_within}
 use Rattle.sheets.specs.Sheets.{inside}
+use Rattle.sheets.specs.Tables.{Limits, Bounded}
 
 -- ---- inside the numbers
 
@@ -38,26 +40,48 @@ module _ {S : Type 0} (s : scale.Ghosts S) where
       by None e h = absurd (omega arith)
       by (Some p) e h = (code, refl, rw e)
 
-  module _ (bytes : List ℕ) where
-    abbrev pub found : (wanted : ℕ × ℕ × ℕ) → ℕ
-    found wanted = level_found s (code_of (entries bytes) wanted)
+  found_within : Codes s → (o : Option ℕ) → level_found s o ≤ s.height
+  found_within codes None = omega arith
+  found_within codes (Some code) = by (s.decode code) refl
+    where
+      by : (d : Option ℕ) → s.decode code ≡ d → unwrap_or d 0 ≤ s.height
+      by None e = omega arith
+      by (Some p) e = codes.within code p e
 
-    -- a recorded level, whether of a step or of a mark
-    pub level_recorded : (kind : Kind) (first second : ℕ) →
-        level_by (file_tables s bytes) kind first second ≡ inside first (states bytes) second (limit (states bytes) (marks bytes) kind) (found (kind_byte kind, first, second))
-    level_recorded Step first second = refl
-    level_recorded Mark first second = refl
+  module _ (n m : ℕ) (look : Key → Option ℕ) where
+    -- a level that is looked up, whether of a step or of a mark
+    pub level_looked : (kind : Kind) (first second : ℕ) → level_by (looked_up s n m look) kind first second ≡ inside first n second (limit n m kind) (level_found s (look (kind_byte kind, first, second)))
+    level_looked Step first second = refl
+    level_looked Mark first second = refl
 
     -- above the floor it is inside the numbers, and found
-    pub recorded_above : (c : Cell) → 0 < level_at (file_tables s bytes) c →
-        (c.first < states bytes) × (c.second < limit (states bytes) (marks bytes) c.kind) × (level_at (file_tables s bytes) c ≡ found (cell_key c))
-    recorded_above c h =
-        let is = level_recorded c.kind c.first c.second in
-        let inner = inside_above c.first (states bytes) c.second (limit (states bytes) (marks bytes) c.kind) (found (cell_key c)) (omega arith) in
-        (inner.0, inner.1, is ∙ inside_in c.first (states bytes) c.second (limit (states bytes) (marks bytes) c.kind) _ inner.0 inner.1)
+    pub looked_above : (c : Cell) → 0 < level_at (looked_up s n m look) c → (c.first < n) × (c.second < limit n m c.kind) × (level_at (looked_up s n m look) c ≡ level_found s (look (cell_key c)))
+    looked_above c h =
+        let is = level_looked c.kind c.first c.second in
+        let inner = inside_above c.first n c.second (limit n m c.kind) (level_found s (look (cell_key c))) (omega arith) in
+        (inner.0, inner.1, is ∙ inside_in c.first n c.second (limit n m c.kind) _ inner.0 inner.1)
 
-    pub file_graded : Codes s → Graded s (file_tables s bytes)
-    file_graded codes c h =
-        let above = recorded_above c h in
-        let code = found_above (code_of (entries bytes) (cell_key c)) (omega (arith, above.2)) in
+    pub looked_graded : Codes s → Graded s (looked_up s n m look)
+    looked_graded codes c h =
+        let above = looked_above c h in
+        let code = found_above (look (cell_key c)) (omega (arith, above.2)) in
         ap (λ (p : ℕ). s.decode (s.code p)) above.2 ∙ ap s.decode (codes.coded code.0 _ code.2) ∙ code.2 ∙ ap Some (sym above.2)
+
+    pub looked_bounded : Codes s → Limits n m → Bounded s.height (looked_up s n m look)
+    looked_bounded codes limits = record {
+      tall = refl;
+      limits = limits;
+      steps_within = λ from to. inside_within from n to n _ s.height (found_within codes (look (1, from, to)));
+      marks_within = λ state which. inside_within state n which m _ s.height (found_within codes (look (2, state, which)));
+      steps_outside = λ from to out. inside_out from n to n _ out;
+      marks_outside = λ state which out. inside_out state n which m _ out;
+    }
+
+  -- ---- what a file records
+
+  module _ (codes : Codes s) (bytes : List ℕ) where
+    pub file_graded : Graded s (file_tables s bytes)
+    file_graded = looked_graded (states bytes) (marks bytes) (code_of (entries bytes)) codes
+
+    pub file_bounded : file_fault s bytes ≡ None → Bounded s.height (file_tables s bytes)
+    file_bounded passed = looked_bounded (states bytes) (marks bytes) (code_of (entries bytes)) codes (faultless s bytes passed).0.limits

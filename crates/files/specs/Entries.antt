@@ -1,6 +1,5 @@
 -- The records of a file as its bytes are, whatever they are. What lies past the end reads as 0.
-use Rattle.std.specs.Prelude.{ℕ, ◌+◌, ◌*◌, List, [], ◌∷◌, drop, Option, slice_get, slice_index}
-use Rattle.std.specs.Option.{option_map}
+use Rattle.std.specs.Prelude.{ℕ, ◌+◌, ◌*◌, List, [], ◌∷◌, drop, slice_index}
 use Rattle.std.specs.Simd.{first_chunks}
 use Rattle.files.specs.declared.entry.Entry.{Entry}
 use Rattle.files.specs.Format.{Key}
@@ -40,10 +39,6 @@ entries_from index (raw ∷ raws) = entry_of index raw ∷ entries_from (index +
 
 abbrev pub entries : List ℕ → List Entry
 entries bytes = entries_from 0 (raw_records bytes)
-
--- the code of the record of an index, or nothing after the last
-abbrev pub code_at : List ℕ → (index : ℕ) → Option ℕ
-code_at bytes index = option_map (λ raw. two_bytes raw 3) (slice_get (raw_records bytes) index)
 
 abbrev pub key : Entry → Key
 key e = (e.kind, e.first, e.second)

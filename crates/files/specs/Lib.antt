@@ -1,4 +1,3 @@
-pub mod Bounds
 pub mod Checks
 pub mod Entries
 pub mod Faults
@@ -9,3 +8,4 @@ pub mod Progress
 pub mod Recorded
 pub mod Refusals
 pub mod Saving
+pub mod Search

@@ -19,12 +19,16 @@ abbrev pub level_found : {S : Type 0} → scale.Ghosts S → Option ℕ → ℕ
 level_found s None = 0
 level_found s (Some code) = unwrap_or (s.decode code) 0
 
--- the recorded grades of steps (kind 1) and marks (kind 2); what is not recorded is the floor
-abbrev pub file_tables : {S : Type 0} → scale.Ghosts S → List ℕ → Tables
-file_tables s bytes = record {
-  states = states bytes;
-  marks = marks bytes;
+-- n states and m marks, with the codes of their steps (kind 1) and marks (kind 2) looked up; outside the numbers stands the floor
+abbrev pub looked_up : {S : Type 0} → scale.Ghosts S → (n m : ℕ) → (look : Key → Option ℕ) → Tables
+looked_up s n m look = record {
+  states = n;
+  marks = m;
   height = s.height;
-  step = λ from to. inside from (states bytes) to (states bytes) (level_found s (code_of (entries bytes) (1, from, to)));
-  mark = λ state which. inside state (states bytes) which (marks bytes) (level_found s (code_of (entries bytes) (2, state, which)));
+  step = λ from to. inside from n to n (level_found s (look (1, from, to)));
+  mark = λ state which. inside state n which m (level_found s (look (2, state, which)));
 }
+
+-- the recorded grades; what is not recorded is the floor
+abbrev pub file_tables : {S : Type 0} → scale.Ghosts S → List ℕ → Tables
+file_tables s bytes = looked_up s (states bytes) (marks bytes) (code_of (entries bytes))

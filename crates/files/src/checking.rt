@@ -10,9 +10,9 @@ use crate::entry::{Entry, raw_records, record_position};
 use crate::fault::{FileCause, FileFault, GradeFault, RecordCause, RecordFault};
 use grades::Scale;
 
-const MOST_STATES: u8 = 64;
+pub(crate) const MOST_STATES: u8 = 64;
 
-const MOST_MARKS: u8 = 16;
+pub(crate) const MOST_MARKS: u8 = 16;
 
 const MOST_RECORDS: u16 = 5120;
 

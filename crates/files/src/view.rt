@@ -1,99 +1,102 @@
-ghost use Rattle.std.specs.Prelude.{◌≡◌, ⊤, IfOk, MatchResult, None};
+ghost use Rattle.std.specs.Prelude.{◌≡◌, IfOk, OnOk};
 ghost use Rattle.std.specs.Result.{result_err};
-ghost use Rattle.files.specs.Bounds.{own_code_within, file_bounded};
-ghost use Rattle.files.specs.Checks.{file_fault};
-ghost use Rattle.files.specs.Entries.{states, marks, code_at, entries};
 ghost use Rattle.files.specs.Format.{level_by};
 ghost use Rattle.files.specs.Opening.{Opened, Verdict};
-ghost use Rattle.files.specs.Recorded.{code_of, level_found, file_tables};
-ghost use Rattle.std.proofs.Props.{props};
+ghost use Rattle.files.specs.Recorded.{level_found};
+ghost use Rattle.files.specs.Search.{partition_point, found, whole_records, view_tables};
+ghost use Rattle.sheets.specs.Tables.{Bounded};
 
 use crate::cell::Kind;
-use crate::checking::check;
-use crate::entry::{Key, raw_records};
+use crate::checking::{MOST_MARKS, MOST_STATES, check};
+use crate::entry::{HEADER, Key};
 use crate::fault::FileFault;
 use grades::{Scale, Thousandths, Words, YesNo};
 use sheets::Structure;
-use std::alloc::AllocError;
 use std::marker::PhantomData;
 
-/// A file for a scale that has no fault, read where it lies.
+/// Checks a file: what passes is read as it is recorded.
+fn pass<S: Scale>(bytes: &[u8]) -> Result<(), FileFault>
+    ensures verdict { Verdict S.Scale bytes.now (result_err result) }
+    ensures opened { OnOk result (Opened S.Scale bytes.now (view_tables S.Scale bytes.now)) }
+{
+    check::<S>(bytes)
+}
+
+/// How many records come before a key, where the records ascend: by binary search.
+fn partition_point(raws: &[[u8; 5]], wanted: Key) -> usize
+    ensures { result ≡ partition_point raws.now wanted }
+{
+    let mut low = 0;
+    let mut high = raws.len();
+    while low < high {
+        let middle = low + (high - low) / 2;
+        let [kind, first, second, ..] = raws[middle];
+        if (kind, first, second) < wanted {
+            low = middle + 1;
+        } else {
+            high = middle;
+        }
+    }
+    low
+}
+
+/// A file for a scale, read where it lies.
+// any bytes mean something, and those that pass what they record, so no invariant has to hold
+#[derive(Clone, Copy)]
 struct OpenFile<'a, S: Scale> {
     bytes: &'a [u8],
     scale: PhantomData<S>,
-    ghost passed: { file_fault S.Scale bytes.now ≡ None } by { Prim.hlevel props },
 }
-
-// written out, since no derive covers a ghost field over a type parameter
-impl<'a, S: Scale> Clone for OpenFile<'a, S> {
-    ghost is_clone = { λ file copy. copy ≡ file };
-
-    ghost is_infallible = { λ _. ⊤ };
-
-    fn clone(&self) -> Result<OpenFile<'a, S>, AllocError> {
-        Ok(*self)
-    }
-}
-
-impl<'a, S: Scale> Copy for OpenFile<'a, S> {}
 
 impl<'a, S: Scale> OpenFile<'a, S> {
-    fn open(bytes: &'a [u8]) -> Result<OpenFile<'a, S>, FileFault>
-        ensures verdict { Verdict S.Scale bytes.now (result_err result) }
-        ensures opened { IfOk result (λ file. Opened S.Scale bytes.now (file_tables S.Scale file.bytes.now)) }
+    fn new(bytes: &'a [u8]) -> OpenFile<'a, S>
+        ensures { result.bytes ≡ bytes }
     {
-        check::<S>(bytes)?;
-        Ok(OpenFile {
+        OpenFile {
             bytes,
             scale: PhantomData,
-        })
+        }
     }
 
+    /// How many states there are; outside the limits, the nearest limit.
     fn states(&self) -> usize
-        ensures { result ≡ states self.now.bytes.now }
+        ensures value { result ≡ (view_tables S.Scale self.now.bytes.now).states }
+        ensures bounded { Bounded S.Scale.height (view_tables S.Scale self.now.bytes.now) }
     {
-        usize::from(self.bytes[6])
+        usize::from(self.bytes.get(6).copied().unwrap_or(0).clamp(1, MOST_STATES))
     }
 
+    /// How many marks there are; outside the limits, the nearest limit.
     fn marks(&self) -> usize
-        ensures { result ≡ marks self.now.bytes.now }
+        ensures value { result ≡ (view_tables S.Scale self.now.bytes.now).marks }
+        ensures bounded { Bounded S.Scale.height (view_tables S.Scale self.now.bytes.now) }
     {
-        usize::from(self.bytes[7])
+        usize::from(self.bytes.get(7).copied().unwrap_or(0).min(MOST_MARKS))
     }
 
-    /// Where the record with a key is, or would be.
-    fn search(&self, wanted: Key) -> Result<usize, usize>
-        ensures { MatchResult result
-            (λ index. code_of (entries self.now.bytes.now) wanted ≡ code_at self.now.bytes.now index)
-            (λ _. code_of (entries self.now.bytes.now) wanted ≡ None) }
+    /// The whole records after the header.
+    fn records(&self) -> &'a [[u8; 5]]
+        ensures { result.now ≡ whole_records self.now.bytes.now }
     {
-        raw_records(self.bytes).binary_search_by_key(
-            &wanted,
-            |&[kind, first, second, ..]| (kind, first, second),
-        )
-    }
-
-    /// The code of the record at an index.
-    fn code_at(&self, index: usize) -> Option<u16>
-        ensures { result ≡ code_at self.now.bytes.now index }
-    {
-        let &[.., low, high] = raw_records(self.bytes).get(index)?;
-        Some(u16::from_le_bytes([low, high]))
+        self.bytes.get(HEADER..).unwrap_or(&[]).as_chunks().0
     }
 
     /// The code that is recorded under a key, or nothing.
     fn find(&self, wanted: Key) -> Option<u16>
-        ensures { result ≡ code_of (entries self.now.bytes.now) wanted }
+        ensures { result ≡ found (whole_records self.now.bytes.now) wanted }
     {
-        match self.search(wanted) {
-            Ok(index) => self.code_at(index),
-            Err(_) => None,
+        let raws = self.records();
+        let &[kind, first, second, low, high] = raws.get(partition_point(raws, wanted))?;
+        if (kind, first, second) == wanted {
+            Some(u16::from_le_bytes([low, high]))
+        } else {
+            None
         }
     }
 
     /// The grade that is recorded under a key, or the floor.
     fn grade(&self, wanted: Key) -> S
-        ensures { S.Scale.level result ≡ level_found S.Scale (code_of (entries self.now.bytes.now) wanted) }
+        ensures { S.Scale.level result ≡ level_found S.Scale (found (whole_records self.now.bytes.now) wanted) }
     {
         self.find(wanted)
             .and_then(|code| S::of_code(code))
@@ -102,7 +105,8 @@ impl<'a, S: Scale> OpenFile<'a, S> {
 
     /// The grade of a step or of a mark.
     fn cell(&self, kind: Kind, first: usize, second: usize) -> S
-        ensures { S.Scale.level result ≡ level_by (file_tables S.Scale self.now.bytes.now) kind first second }
+        ensures value { S.Scale.level result ≡ level_by (view_tables S.Scale self.now.bytes.now) kind first second }
+        ensures bounded { Bounded S.Scale.height (view_tables S.Scale self.now.bytes.now) }
     {
         let limit = match kind {
             Kind::Step => self.states(),
@@ -129,8 +133,9 @@ impl<'a> ThousandthsView<'a> {
         ensures verdict { Verdict ⟦<Thousandths as Scale>⟧ bytes.now (result_err result) }
         ensures opened { IfOk result (λ view. Opened ⟦<Thousandths as Scale>⟧ bytes.now (⟦<ThousandthsView<'a> as Structure>⟧.tables view)) }
     {
+        pass::<Thousandths>(bytes)?;
         Ok(ThousandthsView {
-            file: OpenFile::<Thousandths>::open(bytes)?,
+            file: OpenFile::new(bytes),
         })
     }
 }
@@ -138,9 +143,7 @@ impl<'a> ThousandthsView<'a> {
 impl<'a> Structure for ThousandthsView<'a> {
     type Grade = Thousandths;
 
-    ghost tables = { λ view. file_tables ⟦<Thousandths as Scale>⟧ view.file.bytes.now };
-
-    ghost bounded = { λ view. file_bounded ⟦<Thousandths as Scale>⟧ (own_code_within _) view.file.bytes.now view.file.passed };
+    ghost tables = { λ view. view_tables ⟦<Thousandths as Scale>⟧ view.file.bytes.now };
 
     fn states(&mut self) -> usize {
         self.file.states()
@@ -171,8 +174,9 @@ impl<'a> WordsView<'a> {
         ensures verdict { Verdict ⟦<Words as Scale>⟧ bytes.now (result_err result) }
         ensures opened { IfOk result (λ view. Opened ⟦<Words as Scale>⟧ bytes.now (⟦<WordsView<'a> as Structure>⟧.tables view)) }
     {
+        pass::<Words>(bytes)?;
         Ok(WordsView {
-            file: OpenFile::<Words>::open(bytes)?,
+            file: OpenFile::new(bytes),
         })
     }
 }
@@ -180,9 +184,7 @@ impl<'a> WordsView<'a> {
 impl<'a> Structure for WordsView<'a> {
     type Grade = Words;
 
-    ghost tables = { λ view. file_tables ⟦<Words as Scale>⟧ view.file.bytes.now };
-
-    ghost bounded = { λ view. file_bounded ⟦<Words as Scale>⟧ (own_code_within _) view.file.bytes.now view.file.passed };
+    ghost tables = { λ view. view_tables ⟦<Words as Scale>⟧ view.file.bytes.now };
 
     fn states(&mut self) -> usize {
         self.file.states()
@@ -213,8 +215,9 @@ impl<'a> YesNoView<'a> {
         ensures verdict { Verdict ⟦<YesNo as Scale>⟧ bytes.now (result_err result) }
         ensures opened { IfOk result (λ view. Opened ⟦<YesNo as Scale>⟧ bytes.now (⟦<YesNoView<'a> as Structure>⟧.tables view)) }
     {
+        pass::<YesNo>(bytes)?;
         Ok(YesNoView {
-            file: OpenFile::<YesNo>::open(bytes)?,
+            file: OpenFile::new(bytes),
         })
     }
 }
@@ -222,9 +225,7 @@ impl<'a> YesNoView<'a> {
 impl<'a> Structure for YesNoView<'a> {
     type Grade = YesNo;
 
-    ghost tables = { λ view. file_tables ⟦<YesNo as Scale>⟧ view.file.bytes.now };
-
-    ghost bounded = { λ view. file_bounded ⟦<YesNo as Scale>⟧ (own_code_within _) view.file.bytes.now view.file.passed };
+    ghost tables = { λ view. view_tables ⟦<YesNo as Scale>⟧ view.file.bytes.now };
 
     fn states(&mut self) -> usize {
         self.file.states()
