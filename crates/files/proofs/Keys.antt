@@ -1,8 +1,8 @@
 -- The order of keys is total, and keys that tie are one.
-use Rattle.std.proofs.Common.{◌≡◌, ◌<◌, true, ◌⊎◌, refl, ap, inl, inr, sym, arith}
+use Rattle.std.proofs.Common.{◌≡◌, ◌<◌, true, ◌&&◌, nat_eq, ◌⊎◌, refl, ap, inl, inr, sym, arith}
 use mathlib.Core.Bool.{false≢true}
 use Rattle.std.specs.Cmp.{IsTotalOrder}
-use Rattle.std.specs.Ordering.{ordering_then, is_lt, ordering_index}
+use Rattle.std.specs.Ordering.{ordering_then, is_lt, is_eq, ordering_index}
 use Rattle.std.specs.declared.cmp.Ordering.{Ordering}
 use Rattle.std.specs.declared.cmp.Ordering.TheVariants.{Less, Equal, Greater}
 use Rattle.std.proofs.lemmas.Bool.Decides.{nat_tests}
@@ -32,3 +32,7 @@ pub less_from_parts : (a b : Key) → (a.0 < b.0) ⊎ ((a.0 ≡ b.0) × ((a.1 < 
 less_from_parts a b (inl l) = grind (arith, nat_tests)
 less_from_parts a b (inr (p, inl l)) = grind (arith, nat_tests)
 less_from_parts a b (inr (p, inr (q, l))) = grind (arith, nat_tests)
+
+-- the test for equal keys, part by part
+pub tied_test : (a b : Key) → (nat_eq a.0 b.0 && nat_eq a.1 b.1) && nat_eq a.2 b.2 ≡ is_eq (key_order a b)
+tied_test a b = grind (arith, nat_tests)

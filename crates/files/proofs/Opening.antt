@@ -11,7 +11,7 @@ use Rattle.files.specs.Order.{cell_at}
 use Rattle.files.specs.Progress.{GradedTo}
 use Rattle.files.specs.Saving.{Storable}
 use Rattle.files.specs.Recorded.{looked_up, file_tables}
-use Rattle.files.specs.Search.{states_of, marks_of, whole_records, found, view_tables}
+use Rattle.files.specs.Search.{whole_records, found, view_tables}
 use Rattle.files.specs.Opening.{Opened, Verdict}
 use Rattle.files.proofs.Canonical.{file_records, is_file}
 use Rattle.files.proofs.Cells.{cells_by_index}
@@ -21,6 +21,7 @@ use Rattle.files.proofs.Records.{length-file_of}
 use Rattle.files.proofs.Reopened.{records_few, file_passes, tables_recorded}
 use Rattle.files.proofs.Sound.{faultless}
 use Rattle.files.proofs.Tabled.{Codes, looked_bounded, file_bounded, file_graded}
+use Rattle.sheets.specs.Sheets.{states_of, marks_of}
 use Rattle.sheets.specs.Tables.{Tables, Bounded}
 
 module _ {S : Type 0} (s : scale.Ghosts S) (tall : (x : S) → s.level x ≤ s.height) (encodes : (c p : ℕ) → s.decode c ≡ Some p → (x : S) × ((s.level x ≡ p) × (s.code p ≡ c))) where

@@ -1,5 +1,5 @@
 -- How a view looks a record up, by binary search. No part of the format: in a file without a fault it finds what is recorded.
-use Rattle.std.specs.Prelude.{ℕ, zero, suc, ◌+◌, ◌-◌, ◌/◌, min, max, Bool, cond, List, [], length, get_or, drop, Some, None, Option, nat_lt, slice_get}
+use Rattle.std.specs.Prelude.{ℕ, zero, suc, ◌+◌, ◌-◌, ◌/◌, Bool, cond, List, [], length, get_or, drop, Some, None, Option, nat_lt, slice_get}
 use Rattle.std.specs.Option.{option_and_then}
 use Rattle.std.specs.Ordering.{is_lt, is_eq}
 use Rattle.std.specs.Simd.{first_chunks}
@@ -7,13 +7,8 @@ use Rattle.grades.specs.declared.scale.Scale as scale
 use Rattle.files.specs.Entries.{two_bytes, states, marks, entry_of, key}
 use Rattle.files.specs.Format.{Key, key_order}
 use Rattle.files.specs.Recorded.{looked_up}
+use Rattle.sheets.specs.Sheets.{states_of, marks_of}
 use Rattle.sheets.specs.Tables.{Tables}
-
-abbrev pub states_of : ℕ → ℕ
-states_of n = max 1 (min n 64)
-
-abbrev pub marks_of : ℕ → ℕ
-marks_of m = min m 16
 
 abbrev pub middle : (low high : ℕ) → ℕ
 middle low high = low + (high - low) / 2

@@ -50,7 +50,7 @@ struct OpenFile<'a, S: Scale> {
 
 impl<'a, S: Scale> OpenFile<'a, S> {
     fn new(bytes: &'a [u8]) -> OpenFile<'a, S>
-        ensures { result.bytes ≡ bytes }
+        ensures { result.bytes.now ≡ bytes.now }
     {
         OpenFile {
             bytes,
@@ -63,7 +63,8 @@ impl<'a, S: Scale> OpenFile<'a, S> {
         ensures value { result ≡ (view_tables S.Scale self.now.bytes.now).states }
         ensures bounded { Bounded S.Scale.height (view_tables S.Scale self.now.bytes.now) }
     {
-        usize::from(self.bytes.get(6).copied().unwrap_or(0).clamp(1, MOST_STATES))
+        let states = self.bytes.get(6).copied().unwrap_or(0);
+        usize::from(states.clamp(1, MOST_STATES))
     }
 
     /// How many marks there are; outside the limits, the nearest limit.
@@ -71,7 +72,8 @@ impl<'a, S: Scale> OpenFile<'a, S> {
         ensures value { result ≡ (view_tables S.Scale self.now.bytes.now).marks }
         ensures bounded { Bounded S.Scale.height (view_tables S.Scale self.now.bytes.now) }
     {
-        usize::from(self.bytes.get(7).copied().unwrap_or(0).min(MOST_MARKS))
+        let marks = self.bytes.get(7).copied().unwrap_or(0);
+        usize::from(marks.min(MOST_MARKS))
     }
 
     /// The whole records after the header.

@@ -10,7 +10,7 @@ returns g c =
     let is = c.of-size.ensures in
     let counted = c.count_records-count.ensures in
     let count = rw (is.same, is.states, is.marks) at counted.value in
-    let whole = storable s laws.within laws.encodes (g.K.Structure.tables before) (g.met.K.Structure.bounded before) (rw (is.same, is.states, is.marks) at counted.graded) in
+    let whole = storable s laws.within laws.encodes (g.K.Structure.tables before) is.bounded (rw (is.same, is.states, is.marks) at counted.graded) in
     record {
       planned = record { states = is.states; marks = is.marks; count = count; few = omega (arith, whole.few) };
       storable = whole;
