@@ -119,33 +119,35 @@ module _ {S : Type 0} (s : scale.Ghosts S) (n m : ℕ) (raws : List (List ℕ)) 
   rest : Rest (is_before raws wanted) 0 (length raws) (partition_point raws wanted)
   rest = comes_to_rest (is_before raws wanted) (length raws) down (length raws) 0 (length raws) (omega arith) (omega arith) (omega arith)
 
-  -- no record before the point of rest has the key, and none from there on either, where the one there comes after it
+  -- none before the point of rest has the key
   before_point : (j : ℕ) → j < partition_point raws wanted → is_eq (order j) ≡ false
   before_point j l = apart_before (order j) (rest.holds j (omega arith) l)
 
-  nowhere : ((j : ℕ) → partition_point raws wanted ≤ j → j < length raws → is_eq (order j) ≡ false) → code_of (entries_from 0 raws) wanted ≡ None
-  nowhere after = none_has wanted 0 raws (λ j d h. rw (get_or_default raws j d [] h) (by j h (cases_lt j (partition_point raws wanted))))
+  -- and none at all, where none has it from there on
+  found_nowhere : ((j : ℕ) → partition_point raws wanted ≤ j → j < length raws → is_eq (order j) ≡ false) → code_of (entries_from 0 raws) wanted ≡ None
+  found_nowhere after = none_has wanted 0 raws (λ j d h. rw (get_or_default raws j d [] h) (by j h (cases_lt j (partition_point raws wanted))))
     where
       by : (j : ℕ) → j < length raws → (j < partition_point raws wanted) ⊎ (partition_point raws wanted ≤ j) → is_eq (order j) ≡ false
       by j h (inl l) = before_point j l
       by j h (inr l) = after j l h
 
-  code_there : (k : ℕ) → k < length raws → order k ≡ Equal → code_of (entries_from 0 raws) wanted ≡ Some (two_bytes (get_or raws k []) 3)
-  code_there k h tied =
+  found_at : (k : ℕ) → k < length raws → order k ≡ Equal → code_of (entries_from 0 raws) wanted ≡ Some (two_bytes (get_or raws k []) 3)
+  found_at k h tied =
       ap (code_of (entries_from 0 raws)) (sym (same_from_tied _ _ tied))
       ∙ code_had s n m None (entries_from 0 raws) (entry_of k (get_or raws k [])) sound (has_raw 0 raws k [] k h (omega arith))
 
+  -- what is found by halving is what is recorded
   pub finds : found raws wanted ≡ code_of (entries_from 0 raws) wanted
   finds = by (cases_lt (partition_point raws wanted) (length raws))
     where
       here : (o : Ordering) → order (partition_point raws wanted) ≡ o → partition_point raws wanted < length raws → cond (is_eq o) (Some (two_bytes (get_or raws (partition_point raws wanted) []) 3)) None ≡ code_of (entries_from 0 raws) wanted
       here Less e l = absurd (false≢true (sym (rest.fails (partition_point raws wanted) (omega arith) l) ∙ ap is_lt e))
-      here Equal e l = sym (code_there (partition_point raws wanted) l e)
-      here Greater e l = sym (nowhere (λ j le h. apart_after (order j) (omega (arith, nearing (partition_point raws wanted) j le h, ap ordering_index e))))
+      here Equal e l = sym (found_at (partition_point raws wanted) l e)
+      here Greater e l = sym (found_nowhere (λ j le h. apart_after (order j) (omega (arith, nearing (partition_point raws wanted) j le h, ap ordering_index e))))
 
       by : (partition_point raws wanted < length raws) ⊎ (length raws ≤ partition_point raws wanted) → found raws wanted ≡ code_of (entries_from 0 raws) wanted
       by (inl l) = rw (slice_get-get_or raws (partition_point raws wanted) [] l) (here (order (partition_point raws wanted)) refl l)
-      by (inr l) = rw (slice_get_past raws (partition_point raws wanted) l) (sym (nowhere (λ j le h. absurd (omega arith))))
+      by (inr l) = rw (slice_get_past raws (partition_point raws wanted) l) (sym (found_nowhere (λ j le h. absurd (omega arith))))
 
 -- a record that is read at an index, and whose key was tested
 pub code_read : (raws : List (List ℕ)) (wanted : Key) (k : ℕ) (raw : List ℕ) (b : Bool) → slice_get raws k ≡ Some raw → (nat_eq (get_or raw 0 0) wanted.0 && nat_eq (get_or raw 1 0) wanted.1) && nat_eq (get_or raw 2 0) wanted.2 ≡ b →

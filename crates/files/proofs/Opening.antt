@@ -5,7 +5,7 @@ use Rattle.std.specs.Result.{result_err}
 use Rattle.grades.specs.declared.scale.Scale as scale
 use Rattle.files.specs.declared.fault.FileFault.{FileFault}
 use Rattle.files.specs.Checks.{file_fault}
-use Rattle.files.specs.Entries.{states, marks, entries}
+use Rattle.files.specs.Entries.{states, marks}
 use Rattle.files.specs.Format.{level_at, LeadsBack, Graded}
 use Rattle.files.specs.Order.{cell_at}
 use Rattle.files.specs.Progress.{GradedTo}

@@ -22,7 +22,7 @@ fn pass<S: Scale>(bytes: &[u8]) -> Result<(), FileFault>
     check::<S>(bytes)
 }
 
-/// How many records come before a key, where the records ascend: by binary search.
+/// How many records come before a key, where they ascend: by binary search.
 fn partition_point(raws: &[[u8; 5]], wanted: Key) -> usize
     ensures { result ≡ partition_point raws.now wanted }
 {
@@ -41,7 +41,7 @@ fn partition_point(raws: &[[u8; 5]], wanted: Key) -> usize
 }
 
 /// A file for a scale, read where it lies.
-// any bytes mean something, and those that pass what they record, so no invariant has to hold
+// no invariant: any bytes mean something, and those of a file without a fault mean what is recorded
 #[derive(Clone, Copy)]
 struct OpenFile<'a, S: Scale> {
     bytes: &'a [u8],

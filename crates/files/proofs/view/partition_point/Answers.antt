@@ -1,4 +1,4 @@
-use Rattle.std.proofs.Common.{◌≡◌, true, false, sym, ap, ◌∙◌, arith, rules}
+use Rattle.std.proofs.Common.{◌≡◌, true, false, ◌∙◌, arith, rules}
 use Rattle.files.specs.Search.{middle, is_before}
 use Rattle.files.proofs.Halving.{goes_up, goes_down}
 use Rattle.files.proofs.view.partition_point.Goals as goal
