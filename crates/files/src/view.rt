@@ -89,8 +89,9 @@ impl<'a, S: Scale> OpenFile<'a, S> {
     {
         let raws = self.records();
         let &[kind, first, second, low, high] = raws.get(partition_point(raws, wanted))?;
+        let code = u16::from_le_bytes([low, high]);
         if (kind, first, second) == wanted {
-            Some(u16::from_le_bytes([low, high]))
+            Some(code)
         } else {
             None
         }
