@@ -66,10 +66,10 @@ pub struct FileFault {
     pub cause: FileCause,
 }
 
-impl Refusal for GradeFault {
-    ghost number = { grade_number };
-
-    fn number(self) -> u8 {
+impl GradeFault {
+    pub fn number(self) -> u8
+        ensures { result ≡ grade_number self }
+    {
         match self {
             GradeFault::NoGrade(_) => 1,
             GradeFault::Floor(_) => 23,
@@ -77,10 +77,18 @@ impl Refusal for GradeFault {
     }
 }
 
-impl Refusal for RecordFault {
-    ghost number = { λ fault. (record_answer fault.cause).number };
+impl Refusal for GradeFault {
+    ghost number = { grade_number };
 
     fn number(self) -> u8 {
+        GradeFault::number(self)
+    }
+}
+
+impl RecordFault {
+    pub fn number(self) -> u8
+        ensures { result ≡ (record_answer self.cause).number }
+    {
         match self.cause {
             RecordCause::Kind => 21,
             RecordCause::FirstState | RecordCause::SecondState => 2,
@@ -91,10 +99,18 @@ impl Refusal for RecordFault {
     }
 }
 
-impl Refusal for FileFault {
-    ghost number = { λ fault. (file_answer fault.cause).number };
+impl Refusal for RecordFault {
+    ghost number = { λ fault. (record_answer fault.cause).number };
 
     fn number(self) -> u8 {
+        RecordFault::number(self)
+    }
+}
+
+impl FileFault {
+    pub fn number(self) -> u8
+        ensures { result ≡ (file_answer self.cause).number }
+    {
         match self.cause {
             FileCause::Letters => 17,
             FileCause::Version => 18,
@@ -103,6 +119,14 @@ impl Refusal for FileFault {
             FileCause::Length => 20,
             FileCause::Record(fault) => fault.number(),
         }
+    }
+}
+
+impl Refusal for FileFault {
+    ghost number = { λ fault. (file_answer fault.cause).number };
+
+    fn number(self) -> u8 {
+        FileFault::number(self)
     }
 }
 

@@ -19,13 +19,21 @@ pub enum SaveRefusal {
     Memory,
 }
 
+impl SaveRefusal {
+    pub fn number(self) -> u8
+        ensures { result ≡ save_number self }
+    {
+        match self {
+            SaveRefusal::Memory => 24,
+        }
+    }
+}
+
 impl Refusal for SaveRefusal {
     ghost number = { save_number };
 
     fn number(self) -> u8 {
-        match self {
-            SaveRefusal::Memory => 24,
-        }
+        SaveRefusal::number(self)
     }
 }
 

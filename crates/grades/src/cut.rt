@@ -14,13 +14,21 @@ pub enum CutRefusal {
     AtFloor,
 }
 
+impl CutRefusal {
+    pub fn number(self) -> u8
+        ensures { result ≡ cut_number self }
+    {
+        match self {
+            CutRefusal::AtFloor => 6,
+        }
+    }
+}
+
 impl Refusal for CutRefusal {
     ghost number = { cut_number };
 
     fn number(self) -> u8 {
-        match self {
-            CutRefusal::AtFloor => 6,
-        }
+        CutRefusal::number(self)
     }
 }
 

@@ -1,3 +1,4 @@
+ghost use Rattle.std.specs.Prelude.{◌≡◌};
 ghost use Rattle.sheets.specs.Refusals.{size_number, draw_number, mark_number};
 
 use grades::Refusal;
@@ -34,13 +35,32 @@ pub enum MarkRefusal {
     Mark,
 }
 
+impl SizeRefusal {
+    pub fn number(self) -> u8
+        ensures { result ≡ size_number self }
+    {
+        match self {
+            SizeRefusal::States | SizeRefusal::Marks => 4,
+            SizeRefusal::Memory => 5,
+        }
+    }
+}
+
 impl Refusal for SizeRefusal {
     ghost number = { size_number };
 
     fn number(self) -> u8 {
+        SizeRefusal::number(self)
+    }
+}
+
+impl DrawRefusal {
+    pub fn number(self) -> u8
+        ensures { result ≡ draw_number self }
+    {
         match self {
-            SizeRefusal::States | SizeRefusal::Marks => 4,
-            SizeRefusal::Memory => 5,
+            DrawRefusal::Memory => 5,
+            DrawRefusal::State => 2,
         }
     }
 }
@@ -49,9 +69,18 @@ impl Refusal for DrawRefusal {
     ghost number = { draw_number };
 
     fn number(self) -> u8 {
+        DrawRefusal::number(self)
+    }
+}
+
+impl MarkRefusal {
+    pub fn number(self) -> u8
+        ensures { result ≡ mark_number self }
+    {
         match self {
-            DrawRefusal::Memory => 5,
-            DrawRefusal::State => 2,
+            MarkRefusal::Memory => 5,
+            MarkRefusal::State => 2,
+            MarkRefusal::Mark => 3,
         }
     }
 }
@@ -60,10 +89,6 @@ impl Refusal for MarkRefusal {
     ghost number = { mark_number };
 
     fn number(self) -> u8 {
-        match self {
-            MarkRefusal::Memory => 5,
-            MarkRefusal::State => 2,
-            MarkRefusal::Mark => 3,
-        }
+        MarkRefusal::number(self)
     }
 }
