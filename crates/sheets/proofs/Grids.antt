@@ -12,7 +12,7 @@ use Rattle.sheets.specs.declared.size.Size.{Size}
 use Rattle.sheets.specs.Bounds.{inside_in, grid, grid_within}
 use Rattle.sheets.specs.Cells.{is_inside, cell_index, level_at, with_level}
 use Rattle.sheets.specs.Sheets.{states_of, marks_of, inside, sheet_tables, memory_tables, Whole}
-use Rattle.sheets.specs.Tables.{Tables, all_floor, updated}
+use Rattle.sheets.specs.Tables.{Tables, Limits, all_floor, updated}
 
 -- ---- levels of a list
 
@@ -143,9 +143,19 @@ module _ {S : Type 0} (s : scale.Ghosts S) (size : Size) (grades : List S) where
           (λ ht q. let c : t ≡ n + which = same_column (n + m) u t state (n + which) (omega arith) (omega (arith, numbers.1)) q in omega arith))
           (grid_set xs n m (n + m) (λ k. n + k) (λ c l. omega arith) (λ c d q. omega arith) state which (s.level g) numbers.0 numbers.1 room)
 
-pub floor_tables : (n m h : ℕ) (xs : List ℕ) → ((i : ℕ) → get_or xs i 0 ≡ 0) → sheet_tables n m h xs ≡ all_floor n m h
-floor_tables n m h xs z = tables_are n m h (λ s t. floor_grid n n (n + m) (λ t. t) s t) (λ s k. floor_grid n m (n + m) (λ k. n + k) s k)
+pub floor_tables : (n m h : ℕ) (xs : List ℕ) → Limits n m → ((i : ℕ) → get_or xs i 0 ≡ 0) → sheet_tables (states_of n) (marks_of m) h xs ≡ all_floor n m h
+floor_tables n m h xs limits z =
+    tables_are (states_of n) (marks_of m) h
+    (λ s t. floor_grid (states_of n) (states_of n) (states_of n + marks_of m) (λ t. t) s t)
+    (λ s k. floor_grid (states_of n) (marks_of m) (states_of n + marks_of m) (λ k. states_of n + k) s k)
+    ∙ (λ i. all_floor (states i) (marks i) h)
   where
+    states : states_of n ≡ n
+    states = omega (arith, limits.least, limits.most)
+
+    marks : marks_of m ≡ m
+    marks = omega (arith, limits.few)
+
     floor_grid : (rows columns width : ℕ) (column : ℕ → ℕ) (s c : ℕ) → grid xs rows columns width column s c ≡ 0
     floor_grid rows columns width column s c =
         let l : grid xs rows columns width column s c ≤ 0 = grid_within 0 xs (λ i. omega (arith, z i)) rows columns width column s c in omega arith

@@ -1,9 +1,9 @@
 ghost use Rattle.std.specs.Prelude.{◌≡◌, ℕ, ◌+◌, ◌*◌, true, map as mapped, length, MatchResult, slice_index};
 ghost use Rattle.std.specs.Result.{result_err};
 ghost use Rattle.sheets.specs.Refusals.{draw_refusal, mark_refusal};
-ghost use Rattle.sheets.specs.Sheets.{states_of, marks_of, memory_tables, tables_of, Whole, IsWhole, Kept};
+ghost use Rattle.sheets.specs.Sheets.{states_of, marks_of, sheet_tables, memory_tables, tables_of, Whole, IsWhole, Kept};
 ghost use Rattle.sheets.specs.Cells.{is_inside, level_at, with_level};
-ghost use Rattle.sheets.specs.Tables.{Bounded, all_floor, with_step, with_mark};
+ghost use Rattle.sheets.specs.Tables.{Limits, Bounded, all_floor, with_step, with_mark};
 
 use crate::cell::Cell;
 use crate::{DrawRefusal, MarkRefusal, Sheet, Size, Structure};
@@ -21,7 +21,7 @@ fn put<S: Scale>(grades: &mut [S], size: Size, cell: Cell, grade: S)
 /// Sets every grade to the floor.
 fn clear<S: Scale>(grades: &mut [S])
     ensures cells { (i : ℕ) → slice_index (mapped S.Scale.level grades.new) i ≡ 0 }
-    ensures floors { (size : _) → memory_tables S.Scale size grades.new ≡ all_floor size.states size.marks S.Scale.height }
+    ensures floors { (n m : ℕ) → Limits n m → sheet_tables (states_of n) (marks_of m) S.Scale.height (mapped S.Scale.level grades.new) ≡ all_floor n m S.Scale.height }
 {
     // no `fill`: it asks that a clone cannot fail, which a `Scale` does not promise
     for grade in grades.iter_mut() {

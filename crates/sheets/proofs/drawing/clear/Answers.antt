@@ -8,4 +8,4 @@ loop-grade-preserved g c = floor_more g.S.Scale.level c.loop-grade.grade-index c
 pub returns : goal.returns
 returns g c =
     let cells = floor_all g.S.Scale.level c.loop-grade.grades c.loop-grade.grade-index (omega arith) c.loop-grade.invariant in
-    record { cells = cells; floors = λ size. floor_tables size.states size.marks g.S.Scale.height _ cells }
+    record { cells = cells; floors = λ n m limits. floor_tables n m g.S.Scale.height _ limits cells }
