@@ -26,7 +26,7 @@ abbrev pub bearing : Tables
 bearing = with_marks (with_steps (all_floor 3 2 1000) bearing_steps) bearing_marks
 
 -- a whole sheet of the bearing's size takes every call, and its tables are changed so
-pub record Becomes {S E : Type 0} (s : scale.Ghosts S) (change : Tables → Tables) (before after : Sheet S s) (answer : Result (Unit {0}) E) : Type 0 where
+pub record Becomes {S E : Type 0} (s : scale.Ghosts S) (change : Tables → Tables) (before after : Sheet S) (answer : Result (Unit {0}) E) : Type 0 where
   pub kept : Kept before after
   pub accepted : IsWhole before → before.n ≡ 3 → before.m ≡ 2 → is_ok answer ≡ true
   pub tables : is_ok answer ≡ true → tables_of s after ≡ change (tables_of s before)

@@ -1,6 +1,8 @@
-// Tests of the edges: sizes, memory, codes, maps, cuts and files at and beyond their limits.
+// Tests of the edges: sizes, memory, codes, maps, cuts and files at and beyond their limits, and of what callers may write.
 #![tactic(auto)]
 
+#[cfg(test)]
+mod callers;
 #[cfg(test)]
 mod opening;
 #[cfg(test)]
