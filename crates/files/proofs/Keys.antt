@@ -2,7 +2,7 @@
 use Rattle.std.proofs.Common.{◌≡◌, ◌<◌, true, ◌&&◌, nat_eq, ◌⊎◌, refl, ap, inl, inr, sym, arith}
 use mathlib.Core.Bool.{false≢true}
 use Rattle.std.specs.Cmp.{IsTotalOrder}
-use Rattle.std.specs.Ordering.{ordering_then, is_lt, is_eq, ordering_index}
+use Rattle.std.specs.Ordering.{ordering_then, nat_cmp, is_lt, is_eq, ordering_index, MatchOrdering}
 use Rattle.std.specs.declared.cmp.Ordering.{Ordering}
 use Rattle.std.specs.declared.cmp.Ordering.TheVariants.{Less, Equal, Greater}
 use Rattle.std.proofs.lemmas.Bool.Decides.{nat_tests}
@@ -32,6 +32,20 @@ pub less_from_parts : (a b : Key) → (a.0 < b.0) ⊎ ((a.0 ≡ b.0) × ((a.1 < 
 less_from_parts a b (inl l) = grind (arith, nat_tests)
 less_from_parts a b (inr (p, inl l)) = grind (arith, nat_tests)
 less_from_parts a b (inr (p, inr (q, l))) = grind (arith, nat_tests)
+
+-- and back
+pub parts_from_less : (a b : Key) → key_order a b ≡ Less → (a.0 < b.0) ⊎ ((a.0 ≡ b.0) × ((a.1 < b.1) ⊎ ((a.1 ≡ b.1) × (a.2 < b.2))))
+parts_from_less a b e = by (nat_cmp a.0 b.0) (nat_cmp a.1 b.1) (nat_cmp a.2 b.2) (ranked a.0 b.0 _ refl) (ranked a.1 b.1 _ refl) (ranked a.2 b.2 _ refl) e
+  where
+    by : (x y z : Ordering) → MatchOrdering x (a.0 < b.0) (a.0 ≡ b.0) (b.0 < a.0) → MatchOrdering y (a.1 < b.1) (a.1 ≡ b.1) (b.1 < a.1) → MatchOrdering z (a.2 < b.2) (a.2 ≡ b.2) (b.2 < a.2) →
+        ordering_then (ordering_then x y) z ≡ Less → (a.0 < b.0) ⊎ ((a.0 ≡ b.0) × ((a.1 < b.1) ⊎ ((a.1 ≡ b.1) × (a.2 < b.2))))
+    by Less y z p q r e = inl p
+    by Equal Less z p q r e = inr (p, inl q)
+    by Equal Equal Less p q r e = inr (p, inr (q, r))
+    by Equal Equal Equal p q r e = absurd (omega (arith, ap ordering_index e))
+    by Equal Equal Greater p q r e = absurd (omega (arith, ap ordering_index e))
+    by Equal Greater z p q r e = absurd (omega (arith, ap ordering_index e))
+    by Greater y z p q r e = absurd (omega (arith, ap ordering_index e))
 
 -- the test for equal keys, part by part
 pub tied_test : (a b : Key) → (nat_eq a.0 b.0 && nat_eq a.1 b.1) && nat_eq a.2 b.2 ≡ is_eq (key_order a b)
