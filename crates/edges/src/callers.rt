@@ -66,11 +66,14 @@ impl Structure for Flat {
         usize::from(self.quarters) / 256
     }
 
+    // a byte that is read is known to be one
     fn step_grade(&mut self, _from: usize, _to: usize) -> Words {
+        let _quarters = self.quarters;
         Words::Never
     }
 
     fn mark_grade(&mut self, _state: usize, _which: usize) -> Words {
+        let _quarters = self.quarters;
         Words::Never
     }
 }
@@ -93,7 +96,7 @@ fn what_callers_write(rt: HostRuntime) -> Result<(), Fail> {
         1
     );
     assert_eq!(rt; save(&mut Flat { quarters: 255 }, &mut out).ok(), Some(10));
-    assert_eq!(rt; out[6..8], [64, 0]);
+    assert!(rt; out[6..8] == [64, 0]);
     let mut rest = [0; 3];
     assert!(rt; view_and_rest(&out[..10], &mut rest).is_none());
     assert!(rt; view_and_sheet(&out[..10], Size::new(1, 0, 1)?, &mut words).is_some());
