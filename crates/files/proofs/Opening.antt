@@ -77,7 +77,7 @@ module _ {S : Type 0} (s : scale.Ghosts S) (tall : (x : S) → s.level x ≤ s.h
 
   pub view_bounded : (bytes : List ℕ) → Bounded s.height (view_tables s bytes)
   view_bounded bytes =
-      looked_bounded s (states_of (states bytes)) (marks_of (marks bytes)) (found (whole_records bytes)) codes (record { least = omega arith; most = omega arith; few = omega arith })
+      looked_bounded s (states_of (states bytes)) (marks_of (marks bytes)) (found (whole_records bytes)) codes.within (record { least = omega arith; most = omega arith; few = omega arith })
 
 module _ {S : Type 0} (s : scale.Ghosts S) (bytes : List ℕ) where
   -- a view of a file without a fault reads what is recorded

@@ -40,13 +40,13 @@ module _ {S : Type 0} (s : scale.Ghosts S) where
       by None e h = absurd (omega arith)
       by (Some p) e h = (code, refl, rw e)
 
-  found_within : Codes s → (o : Option ℕ) → level_found s o ≤ s.height
-  found_within codes None = omega arith
-  found_within codes (Some code) = by (s.decode code) refl
+  found_within : ((c p : ℕ) → s.decode c ≡ Some p → p ≤ s.height) → (o : Option ℕ) → level_found s o ≤ s.height
+  found_within within None = omega arith
+  found_within within (Some code) = by (s.decode code) refl
     where
       by : (d : Option ℕ) → s.decode code ≡ d → unwrap_or d 0 ≤ s.height
       by None e = omega arith
-      by (Some p) e = codes.within code p e
+      by (Some p) e = within code p e
 
   module _ (n m : ℕ) (look : Key → Option ℕ) where
     -- a level that is looked up, whether of a step or of a mark
@@ -61,18 +61,18 @@ module _ {S : Type 0} (s : scale.Ghosts S) where
         let inner = inside_above c.first n c.second (limit n m c.kind) (level_found s (look (cell_key c))) (omega arith) in
         (inner.0, inner.1, is ∙ inside_in c.first n c.second (limit n m c.kind) _ inner.0 inner.1)
 
-    pub looked_graded : Codes s → Graded s (looked_up s n m look)
-    looked_graded codes c h =
+    pub looked_graded : ((c p : ℕ) → s.decode c ≡ Some p → s.code p ≡ c) → Graded s (looked_up s n m look)
+    looked_graded coded c h =
         let above = looked_above c h in
         let code = found_above (look (cell_key c)) (omega (arith, above.2)) in
-        ap (λ (p : ℕ). s.decode (s.code p)) above.2 ∙ ap s.decode (codes.coded code.0 _ code.2) ∙ code.2 ∙ ap Some (sym above.2)
+        ap (λ (p : ℕ). s.decode (s.code p)) above.2 ∙ ap s.decode (coded code.0 _ code.2) ∙ code.2 ∙ ap Some (sym above.2)
 
-    pub looked_bounded : Codes s → Limits n m → Bounded s.height (looked_up s n m look)
-    looked_bounded codes limits = record {
+    pub looked_bounded : ((c p : ℕ) → s.decode c ≡ Some p → p ≤ s.height) → Limits n m → Bounded s.height (looked_up s n m look)
+    looked_bounded within limits = record {
       tall = refl;
       limits = limits;
-      steps_within = λ from to. inside_within from n to n _ s.height (found_within codes (look (1, from, to)));
-      marks_within = λ state which. inside_within state n which m _ s.height (found_within codes (look (2, state, which)));
+      steps_within = λ from to. inside_within from n to n _ s.height (found_within within (look (1, from, to)));
+      marks_within = λ state which. inside_within state n which m _ s.height (found_within within (look (2, state, which)));
       steps_outside = λ from to out. inside_out from n to n _ out;
       marks_outside = λ state which out. inside_out state n which m _ out;
     }
@@ -81,7 +81,7 @@ module _ {S : Type 0} (s : scale.Ghosts S) where
 
   module _ (codes : Codes s) (bytes : List ℕ) where
     pub file_graded : Graded s (file_tables s bytes)
-    file_graded = looked_graded (states bytes) (marks bytes) (code_of (entries bytes)) codes
+    file_graded = looked_graded (states bytes) (marks bytes) (code_of (entries bytes)) codes.coded
 
     pub file_bounded : file_fault s bytes ≡ None → Bounded s.height (file_tables s bytes)
-    file_bounded passed = looked_bounded (states bytes) (marks bytes) (code_of (entries bytes)) codes (faultless s bytes passed).0.limits
+    file_bounded passed = looked_bounded (states bytes) (marks bytes) (code_of (entries bytes)) codes.within (faultless s bytes passed).0.limits
