@@ -1,8 +1,8 @@
 -- The order of keys is total, and keys that tie are one.
-use Rattle.std.proofs.Common.{◌≡◌, ◌<◌, true, ◌&&◌, nat_eq, ◌⊎◌, refl, ap, inl, inr, sym, arith}
+use Rattle.std.proofs.Common.{◌≡◌, ◌<◌, true, ◌⊎◌, refl, ap, inl, inr, sym, arith}
 use mathlib.Core.Bool.{false≢true}
 use Rattle.std.specs.Cmp.{IsTotalOrder}
-use Rattle.std.specs.Ordering.{ordering_then, nat_cmp, is_lt, is_eq, ordering_index, MatchOrdering}
+use Rattle.std.specs.Ordering.{ordering_then, nat_cmp, is_lt, ordering_index, MatchOrdering}
 use Rattle.std.specs.declared.cmp.Ordering.{Ordering}
 use Rattle.std.specs.declared.cmp.Ordering.TheVariants.{Less, Equal, Greater}
 use Rattle.std.proofs.lemmas.Bool.Decides.{nat_tests}
@@ -46,7 +46,3 @@ parts_from_less a b e = by (nat_cmp a.0 b.0) (nat_cmp a.1 b.1) (nat_cmp a.2 b.2)
     by Equal Equal Greater p q r e = absurd (omega (arith, ap ordering_index e))
     by Equal Greater z p q r e = absurd (omega (arith, ap ordering_index e))
     by Greater y z p q r e = absurd (omega (arith, ap ordering_index e))
-
--- the test for equal keys, part by part
-pub tied_test : (a b : Key) → (nat_eq a.0 b.0 && nat_eq a.1 b.1) && nat_eq a.2 b.2 ≡ is_eq (key_order a b)
-tied_test a b = grind (arith, nat_tests)

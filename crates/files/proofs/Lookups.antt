@@ -1,10 +1,9 @@
 -- In records that pass their checks, halving finds what is recorded.
-use Rattle.std.proofs.Common.{◌≡◌, ℕ, zero, suc, ◌+◌, ◌/◌, ◌<◌, ◌≤◌, Bool, true, false, cond, ◌&&◌, nat_eq, ◌⊎◌, List, [], ◌∷◌, length, slice_get, get_or, drop, Some, None, Option, sym, refl, ap, ◌∙◌, inl, inr, arith}
+use Rattle.std.proofs.Common.{◌≡◌, ℕ, zero, suc, ◌+◌, ◌/◌, ◌<◌, ◌≤◌, true, false, cond, ◌⊎◌, List, [], ◌∷◌, length, get_or, drop, Some, None, Option, sym, refl, ap, ◌∙◌, inl, inr, arith}
 use mathlib.Core.Bool.{false≢true}
 use Rattle.std.specs.List.{Contains, All}
 use Rattle.std.specs.List.Sorted.{IsSortedBy}
 use Rattle.std.specs.Simd.{first_chunks}
-use Rattle.std.specs.Option.{option_and_then}
 use Rattle.std.specs.Ordering.{is_lt, is_eq, ordering_index, ordering_reverse}
 use Rattle.std.specs.declared.cmp.Ordering.{Ordering}
 use Rattle.std.specs.declared.cmp.Ordering.TheVariants.{Less, Equal, Greater}
@@ -20,9 +19,9 @@ use Rattle.files.specs.Checks.{file_fault}
 use Rattle.files.specs.Entries.{two_bytes, states, marks, count, raw_records, entry_of, entries_from, entries, key}
 use Rattle.files.specs.Format.{Key, key_order}
 use Rattle.files.specs.Recorded.{code_of}
-use Rattle.files.specs.Search.{whole_records, raw_key, is_before, partition_point, code_at, found}
+use Rattle.files.specs.Search.{whole_records, raw_key, is_before, partition_point, found}
 use Rattle.files.proofs.Halving.{Rest, comes_to_rest}
-use Rattle.files.proofs.Keys.{key_total, less_from_test, same_from_tied, tied_test}
+use Rattle.files.proofs.Keys.{key_total, less_from_test, same_from_tied}
 use Rattle.files.proofs.Sound.{Sound, faultless}
 
 -- ---- what a list has
@@ -148,13 +147,6 @@ module _ {S : Type 0} (s : scale.Ghosts S) (n m : ℕ) (raws : List (List ℕ)) 
       by : (partition_point raws wanted < length raws) ⊎ (length raws ≤ partition_point raws wanted) → found raws wanted ≡ code_of (entries_from 0 raws) wanted
       by (inl l) = rw (slice_get-get_or raws (partition_point raws wanted) [] l) (here (order (partition_point raws wanted)) refl l)
       by (inr l) = rw (slice_get_past raws (partition_point raws wanted) l) (sym (found_nowhere (λ j le h. absurd (omega arith))))
-
--- a record that is read at an index, and whose key was tested
-pub code_read : (raws : List (List ℕ)) (wanted : Key) (k : ℕ) (raw : List ℕ) (b : Bool) → slice_get raws k ≡ Some raw → (nat_eq (get_or raw 0 0) wanted.0 && nat_eq (get_or raw 1 0) wanted.1) && nat_eq (get_or raw 2 0) wanted.2 ≡ b →
-    code_at raws wanted k ≡ cond b (Some (two_bytes raw 3)) None
-code_read raws wanted k raw b at test =
-    ap (option_and_then (λ (r : List ℕ). cond (is_eq (key_order (raw_key r) wanted)) (Some (two_bytes r 3)) None)) at
-    ∙ ap (λ (t : Bool). cond t (Some (two_bytes raw 3)) None) (sym (tied_test (raw_key raw) wanted) ∙ test)
 
 -- in a file without a fault the whole records are those that its header counts
 module _ {S : Type 0} (s : scale.Ghosts S) (bytes : List ℕ) (passed : file_fault s bytes ≡ None) where

@@ -34,9 +34,13 @@ is_before raws wanted index = is_lt (key_order (raw_key (get_or raws index [])) 
 abbrev pub partition_point : List (List ℕ) → (wanted : Key) → ℕ
 partition_point raws wanted = halved (is_before raws wanted) (length raws) 0 (length raws)
 
--- the code of the record at an index, where there is such a record and it has the key
+-- the code of a record, where it has the key
+abbrev pub code_under : List ℕ → (wanted : Key) → Option ℕ
+code_under raw wanted = cond (is_eq (key_order (raw_key raw) wanted)) (Some (two_bytes raw 3)) None
+
+-- the same of the record at an index, where there is one
 abbrev pub code_at : List (List ℕ) → (wanted : Key) → (index : ℕ) → Option ℕ
-code_at raws wanted index = option_and_then (λ raw. cond (is_eq (key_order (raw_key raw) wanted)) (Some (two_bytes raw 3)) None) (slice_get raws index)
+code_at raws wanted index = option_and_then (λ raw. code_under raw wanted) (slice_get raws index)
 
 abbrev pub found : List (List ℕ) → (wanted : Key) → Option ℕ
 found raws wanted = code_at raws wanted (partition_point raws wanted)

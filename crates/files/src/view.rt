@@ -3,7 +3,7 @@ ghost use Rattle.std.specs.Result.{result_err};
 ghost use Rattle.files.specs.Format.{level_by};
 ghost use Rattle.files.specs.Opening.{Opened, Verdict};
 ghost use Rattle.files.specs.Recorded.{level_found};
-ghost use Rattle.files.specs.Search.{partition_point, found, whole_records, view_tables};
+ghost use Rattle.files.specs.Search.{partition_point, code_under, found, whole_records, view_tables};
 ghost use Rattle.sheets.specs.Tables.{Bounded};
 
 use crate::cell::Kind;
@@ -38,6 +38,18 @@ fn partition_point(raws: &[[u8; 5]], wanted: Key) -> usize
         }
     }
     low
+}
+
+/// The code of a record, where it has the key.
+fn code_under(raw: &[u8; 5], wanted: Key) -> Option<u16>
+    ensures { result ≡ code_under raw.now wanted }
+{
+    let &[kind, first, second, low, high] = raw;
+    if (kind, first, second) == wanted {
+        Some(u16::from_le_bytes([low, high]))
+    } else {
+        None
+    }
 }
 
 /// A file for a scale, read where it lies.
@@ -88,13 +100,7 @@ impl<'a, S: Scale> OpenFile<'a, S> {
         ensures { result ≡ found (whole_records self.now.bytes.now) wanted }
     {
         let raws = self.records();
-        let &[kind, first, second, low, high] = raws.get(partition_point(raws, wanted))?;
-        let code = u16::from_le_bytes([low, high]);
-        if (kind, first, second) == wanted {
-            Some(code)
-        } else {
-            None
-        }
+        code_under(raws.get(partition_point(raws, wanted))?, wanted)
     }
 
     /// The grade that is recorded under a key, or the floor.
