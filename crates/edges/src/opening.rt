@@ -2,7 +2,7 @@ use files::{
     FileCause, FileFault, GradeFault, RecordCause, RecordFault, ThousandthsView, WordsView,
     YesNoView, check as check_file, save,
 };
-use grades::{Refusal, Scale, Thousandths, Words, WordsToThousandths, YesNo};
+use grades::{Scale, Thousandths, Words, WordsToThousandths, YesNo};
 use sheets::{Sheet, Size, Structure, Translated};
 use std::process::Abort;
 use std::test::Fail;

@@ -1,4 +1,4 @@
-ghost use Rattle.std.specs.Prelude.{◌≡◌, ◌≤◌, length};
+ghost use Rattle.std.specs.Prelude.{◌≡◌, length};
 ghost use Rattle.files.specs.Format.{record_position, file_length};
 ghost use Rattle.files.specs.Entries.{count, raw_records, entry_of, key};
 
